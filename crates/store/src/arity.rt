@@ -2,13 +2,17 @@
 ghost use mathlib.Core.Path.{_≡_};
 ghost use Rattle.store.specs.Rows.{arityIn, zeroFrom};
 
+// Only relations below this may be declared.
+const RELATIONS: usize = 16;
+const MOST_ARITY: u8 = 4;
+
 // The arity that the bytes give a relation: 0, which means undeclared, where its byte is missing
 // or above 4, and for every relation past 15.
 pub fn arity_in(arities: &[u8], relation: u16) -> u8
     ensures { λ r. ⌜ r ≡ arityIn (now (arities .entry)) relation ⌝ }
 {
     let place = relation as usize;
-    if place < 16 && place < arities.len() && arities[place] <= 4 {
+    if place < RELATIONS && place < arities.len() && arities[place] <= MOST_ARITY {
         arities[place]
     } else {
         0
