@@ -1,2 +1,3 @@
 pub mod Notices
 pub mod Questions
+pub mod Printing

@@ -3,5 +3,6 @@ mod layer;
 mod notice;
 
 pub use layer::Layer;
+pub use layer::LayerDisplay;
 pub use layer::layer_of;
 pub use notice::Notice;

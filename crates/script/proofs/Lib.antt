@@ -1,0 +1,4 @@
+mod Numbers
+mod Columns
+mod FirstBytes
+mod Gathered

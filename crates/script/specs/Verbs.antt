@@ -1,0 +1,16 @@
+-- The first words of a line that are known.
+use mathlib.Core.Bool.{cond}
+use mathlib.Core.List.{List}
+use Prim.Native.Nat.{ℕ}
+use lib.Chars.{codes}
+use Rattle.std.specs.declared.option.Option.{Option}
+use Rattle.std.specs.declared.option.Option.the-variants.{Some, None}
+use Rattle.store.specs.Lists.{sameNumbers}
+use Rattle.script.specs.declared.command.Verb.{Verb}
+use Rattle.script.specs.declared.command.Verb.the-variants.{Enter, Strike}
+
+-- a word that is known commands something
+abbrev pub verbOf : List ℕ → Option Verb
+verbOf word =
+    cond (sameNumbers word (codes "enter")) (Some Enter)
+    (cond (sameNumbers word (codes "strike")) (Some Strike) None)

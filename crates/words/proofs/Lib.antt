@@ -1,0 +1,5 @@
+mod Columns
+pub mod Cuts
+mod Digits
+mod Examples
+mod Steps
