@@ -32,12 +32,14 @@ pub impl fmt::Display for Layer as LayerDisplay {
     ghost shown = { λ layer. Some (layerWord layer) };
 
     fn fmt<W: fmt::Write>(&self, f: &mut fmt::Formatter<W>) -> fmt::Result {
-        f.write_str(match self {
-            Layer::Script => "script",
-            Layer::Source => "source",
-            Layer::Plan => "plan",
-            Layer::Page => "page",
-            Layer::Book => "book",
-        })
+        f.write_str(
+            match self {
+                Layer::Script => "script",
+                Layer::Source => "source",
+                Layer::Plan => "plan",
+                Layer::Page => "page",
+                Layer::Book => "book",
+            },
+        )
     }
 }

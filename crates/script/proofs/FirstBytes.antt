@@ -24,6 +24,6 @@ pub by-first-bytes : By-first-bytes
 by-first-bytes line = ⊎-elim
     (λ (short : length line ≤ 200). let whole = take-all 201 line (omega arith) in (ap lineRefusal whole, λ _. whole))
     (λ (far : 200 < length line).
-      let size = length-take-le 201 line (omega arith) in
-      (long (take 201 line) (omega arith) ∙ sym (long line far), λ none. let z : _≡_ {A = ℕ} 0 1 = cc (long line far) in absurd (omega arith)))
+    let size = length-take-le 201 line (omega arith) in
+    (long (take 201 line) (omega arith) ∙ sym (long line far), λ none. let z : _≡_ {A = ℕ} 0 1 = cc (long line far) in absurd (omega arith)))
     (side (length line))

@@ -7,7 +7,7 @@ use Rattle.std.specs.Options.{isSome, mapped}
 use Rattle.std.specs.declared.option.Option.{Option}
 use Rattle.std.specs.declared.option.Option.the-variants.{Some, None}
 use Rattle.std.proofs.shelf.Tests.{both-ways}
-use Rattle.words.specs.Language.{Form, number, leaf, comparison, sign, slash, formOf, numberOf, isNumber, isLeaf, isComparison, isPlanSign, isSlash, Placed, Placed-form, wordOf}
+use Rattle.words.specs.Language.{Form, number, leaf, comparison, sign, slash, formOf, numberOf, isNumber, isLeaf, isComparison, isPlanSign, isSlash, Placed, Formed, wordOf}
 use Rattle.script.specs.Lines.{valueOf, hasForm}
 
 abbrev valueIn : Option Form → Option ℕ
@@ -32,12 +32,12 @@ module _ (text : List ℕ) where
   by-form = each (isNumber text) (isLeaf text) (isComparison text) (isPlanSign text) (isSlash text) refl
 
 -- what a word's meaning tells of the form of its bytes
-formed : (p : Placed) (o : Option Form) (w : Placed-form) → Some w ≡ mapped (λ f. record { form = f; place = p .place }) o → o ≡ Some (w .form)
+formed : (p : Placed) (o : Option Form) (w : Formed) → Some w ≡ mapped (λ f. record { form = f; place = p .place }) o → o ≡ Some (w .form)
 formed p None w e = cc
-formed p (Some f) w e = ap (λ v. mapped (λ (x : Placed-form). x .form) v) (sym e)
+formed p (Some f) w e = ap (λ v. mapped (λ (x : Formed). x .form) v) (sym e)
 
 module _ (p : Placed) where
-  pub its-form : (w : Placed-form) → Some w ≡ wordOf p → formOf (p .text) ≡ Some (w .form)
+  pub its-form : (w : Formed) → Some w ≡ wordOf p → formOf (p .text) ≡ Some (w .form)
   unfolding wordOf
   its-form w e = formed p (formOf (p .text)) w e
 
@@ -45,17 +45,17 @@ module _ (p : Placed) where
   unfolding wordOf
   no-form e = go (formOf (p .text)) e
     where
-      go : (o : Option Form) → _≡_ {A = Option Placed-form} None (mapped (λ f. record { form = f; place = p .place }) o) → o ≡ None
+      go : (o : Option Form) → _≡_ {A = Option Formed} None (mapped (λ f. record { form = f; place = p .place }) o) → o ≡ None
       go None e = refl
       go (Some f) e = cc
 
-  pub its-value : (w : Placed-form) → Some w ≡ wordOf p → valueOf (w .form) ≡ numberOf (p .text)
+  pub its-value : (w : Formed) → Some w ≡ wordOf p → valueOf (w .form) ≡ numberOf (p .text)
   its-value w e = ap valueIn (sym (its-form w e)) ∙ by-form (p .text)
 
   pub no-value : None ≡ wordOf p → None ≡ numberOf (p .text)
   no-value e = ap valueIn (sym (no-form e)) ∙ by-form (p .text)
 
-  pub has-form : (w : Placed-form) → Some w ≡ wordOf p → hasForm (p .text) ≡ true
+  pub has-form : (w : Formed) → Some w ≡ wordOf p → hasForm (p .text) ≡ true
   has-form w e = ap isSome (its-form w e)
 
   pub has-none : None ≡ wordOf p → hasForm (p .text) ≡ false

@@ -73,10 +73,12 @@ fn command_of(verb: Verb, words: Parts<'_>) -> Option<Command>
     ensures { λ r. ⌜ r ≡ commandOf verb (texts (toCome (words .entry))) ⌝ }
 {
     let row = row_from(words)?;
-    Some(match verb {
-        Verb::Enter => Command::Enter(row),
-        Verb::Strike => Command::Strike(row),
-    })
+    Some(
+        match verb {
+            Verb::Enter => Command::Enter(row),
+            Verb::Strike => Command::Strike(row),
+        },
+    )
 }
 
 // A row from its words: a relation, and one to four columns.
@@ -94,7 +96,11 @@ fn relation_in(part: Part<'_>) -> Option<u16>
     ensures { λ r. ⌜ r ≡ relationIn (numberOf (now ((part .entry) .text))) ⌝ }
 {
     let value = number_in(part)?;
-    if value <= u16::MAX as u32 { Some(value as u16) } else { None }
+    if value <= u16::MAX as u32 {
+        Some(value as u16)
+    } else {
+        None
+    }
 }
 
 // The number that a word is.

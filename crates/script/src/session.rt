@@ -54,5 +54,4 @@ impl Session {
 // The first 201 bytes of a line decide all that is said of it.
 pub fn first_bytes_decide()
     ensures { λ _. ⌜ By-first-bytes ⌝ }
-{
-}
+{}

@@ -4,6 +4,7 @@ ghost use Rattle.store.specs.Rows.{arityIn, zeroFrom};
 
 // Only relations below this may be declared.
 const RELATIONS: usize = 16;
+
 const MOST_ARITY: u8 = 4;
 
 // The arity that the bytes give a relation: 0, which means undeclared, where its byte is missing

@@ -1,6 +1,6 @@
 -- Laws of cutting: what the parts of a text are, how many, and where they stand.
-use mathlib.Core.Path.{_≡_, refl, sym, ap, subst, _∙_}
-use mathlib.Core.Bool.{Bool, true, false, cond, not, _&&_}
+use mathlib.Core.Path.{_≡_, refl, sym, ap, _∙_}
+use mathlib.Core.Bool.{Bool, true, false, cond, not}
 use mathlib.Core.List.{List, [], _∷_, _++_}
 use Prim.Native.Nat.{ℕ, zero, suc, _+_, _<_}
 use native.Mathlib.Numerals.{add-one}
@@ -58,6 +58,17 @@ module _ (sep : ℕ → Bool) where
   unfolding cut
   length-cut [] = refl
   length-cut (b ∷ bs) = length-more b (cut sep bs) _ (sep b) (length-cut bs) ∙ ap (λ n. n + 1) (sym (sumBy-cons (λ x. cond (sep x) 1 0) b bs))
+
+  free-more : (b : ℕ) (ps : List (List ℕ)) (t : Bool) → sep b ≡ t → every (every (λ x. not (sep x))) ps ≡ true → every (every (λ x. not (sep x))) (cond t ([] ∷ ps) (longer b ps)) ≡ true
+  free-more b ps true is free = free
+  free-more b [] false is free = rw is
+  free-more b (p ∷ ps) false is free = rw is free
+
+  -- no part holds a separator
+  pub cut-free : (text : List ℕ) → every (every (λ x. not (sep x))) (cut sep text) ≡ true
+  unfolding cut
+  cut-free [] = refl
+  cut-free (b ∷ bs) = free-more b (cut sep bs) (sep b) refl (cut-free bs)
 
 -- the places leave the parts as they are
 texts-placed : (at : ℕ) (ps : List (List ℕ)) → texts (placed at ps) ≡ ps

@@ -1,17 +1,16 @@
 -- How the value of a number is read, digit by digit.
-use mathlib.Core.Path.{_≡_, refl, sym, ap, _∙_}
-use mathlib.Core.Bool.{Bool, true, false, cond}
-use mathlib.Core.List.{List, [], _∷_}
+use mathlib.Core.Path.{_≡_, refl, sym, _∙_}
+use mathlib.Core.Bool.{true, false}
+use mathlib.Core.List.{List}
 use Prim.Native.Nat.{ℕ, _+_, _-_, _*_, _^_, _≤_, _<_}
 use native.Mathlib.Nat.{pow-suc}
 use native.Mathlib.Numerals.{add-one}
 use native.Mathlib.Omega.{arith}
 use lib.Dec.{eqb, leb}
 use lib.ListN.{length, getD, drop}
-use Rattle.std.specs.declared.option.Option.{Option}
 use Rattle.std.specs.declared.option.Option.the-variants.{Some, None}
 use Rattle.std.proofs.shelf.Lists.{at-drop-more, at-drop-all}
-use Rattle.std.proofs.shelf.Tests.{le-leb, leb-true, and-parts}
+use Rattle.std.proofs.shelf.Tests.{leb-true, and-parts}
 use Rattle.std.proofs.shelf.Ways.{tells}
 use Rattle.words.specs.Language.{every, isDigit, valueAfter, numberOf}
 
@@ -20,9 +19,6 @@ pub record Sofar (text : List ℕ) (i value : ℕ) : Type 0 where
   pub same : valueAfter value (drop i text) ≡ valueAfter 0 text
   pub digits : every isDigit (drop i text) ≡ every isDigit text
   pub small : value < 10 ^ i
-
-pub none-yet : (text : List ℕ) → Sofar text 0 0
-none-yet text = record { same = refl; digits = refl; small = omega arith }
 
 module _ (text : List ℕ) (i value : ℕ) (old : Sofar text i value) where
   pub one-more : i < length text → isDigit (getD text i 0) ≡ true → Sofar text (i + 1) (10 * value + (getD text i 0 - 48))
@@ -35,14 +31,14 @@ module _ (text : List ℕ) (i value : ℕ) (old : Sofar text i value) where
         small = omega (arith, old .small);
       }
 
-  -- a byte that is no digit
+  -- a byte that is no digit spoils the number
   pub spoilt : i < length text → isDigit (getD text i 0) ≡ false → None ≡ numberOf text
   unfolding numberOf
   spoilt h is =
       let spoils : every isDigit text ≡ false = sym (old .digits) ∙ at-drop-more (every isDigit) text i 0 h ∙ rw is refl in
       grind (arith, tells)
 
-  -- every byte is a digit
+  -- every byte was a digit
   module _ (end : length text ≤ i) (some : false ≡ eqb (length text) 0) (few : length text ≤ 10) where
     all : every isDigit text ≡ true
     all = sym (old .digits) ∙ at-drop-all (every isDigit) text i end

@@ -5,10 +5,10 @@ use mathlib.Core.List.{List, [], _∷_}
 use Prim.Native.Nat.{ℕ}
 use Prim.Native.String.{String}
 use lib.Chars.{codes}
-use Rattle.std.specs.declared.option.Option.the-variants.{Some, None}
+use Rattle.std.specs.declared.option.Option.the-variants.{Some}
 use Rattle.std.specs.Options.{isSome}
 use Rattle.words.specs.declared.separators.Separator.the-variants.{Space}
-use Rattle.words.specs.Language.{separates, every, cut, placed, partsOf, numberOf, isNumber, isLeaf, isComparison, isPlanSign, isSlash, formOf}
+use Rattle.words.specs.Language.{separates, every, cut, placed, partsOf, numberOf, isNumber, isLeaf, isComparison, isPlanSign, formOf}
 
 abbrev words : String → List (List ℕ)
 words line = cut (separates Space) (codes line)

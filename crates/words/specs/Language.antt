@@ -166,10 +166,10 @@ formOf text =
     cond (isNumber text) (Some (number text)) (cond (isLeaf text) (Some (leaf text)) (cond (isComparison text) (Some (comparison text)) (cond (isPlanSign text) (Some (sign text)) (cond (isSlash text) (Some slash) None))))
 
 -- a word: a form and the place of its first byte
-pub record Placed-form : Type 0 where
+pub record Formed : Type 0 where
   pub form : Form
   pub place : ℕ
 
 -- the word that a part is, if it has a form
-unfoldable pub wordOf : Placed → Option Placed-form
+unfoldable pub wordOf : Placed → Option Formed
 wordOf p = mapped (λ f. record { form = f; place = p .place }) (formOf (p .text))

@@ -12,7 +12,7 @@ use Rattle.words.specs.declared.parts.Parts.{Parts}
 use Rattle.words.specs.declared.tokens.Token.{Token}
 use Rattle.words.specs.declared.tokens.Token.the-variants.{Number, Leaf, Comparison, Sign, Slash}
 use Rattle.words.specs.declared.tokens.Word.{Word}
-use Rattle.words.specs.Language.{separates, cut, Placed, placed, Form, number, leaf, comparison, sign, slash, Placed-form}
+use Rattle.words.specs.Language.{separates, cut, Placed, placed, Form, number, leaf, comparison, sign, slash, Formed}
 
 -- none of the first n bytes is a separator
 abbrev pub Free : (ℕ → Bool) → List ℕ → ℕ → Type 0
@@ -45,5 +45,5 @@ seen (Sign t) = sign (t .now)
 seen Slash = slash
 
 -- a word, without its reference
-abbrev pub read : Word → Placed-form
+abbrev pub read : Word → Formed
 read w = record { form = seen (w .token); place = w .place }

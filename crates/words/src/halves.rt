@@ -6,7 +6,7 @@ use crate::Parts;
 use crate::PartsIterator;
 use crate::Separator;
 
-// What stands before and behind the separator, where there is exactly one.
+// What stands before and behind the separator, or None where there is not exactly one.
 pub fn halves<'a>(text: &'a [u8], separator: Separator) -> Option<(&'a [u8], &'a [u8])>
     ensures { λ r. ⌜ mapped (λ h. (h .0 .now, h .1 .now)) r ≡ halvesOf separator (now (text .entry)) ⌝ }
 {

@@ -6,7 +6,7 @@ const MOST_DIGITS: usize = 10;
 
 const LIMIT: u64 = 1 << 32;
 
-// The value of a text that is a number.
+// The value of a number, or None where the text is none.
 pub fn number(text: &[u8]) -> Option<u32>
     ensures { λ r. ⌜ r ≡ numberOf (now (text .entry)) ⌝ }
 {

@@ -2,6 +2,8 @@
 ghost use mathlib.Core.Path.{_≡_};
 ghost use Rattle.words.specs.Language.{separates};
 
+// A space parts the words of a line, a colon a leaf's relation from its columns, a comma the columns, and one of = # < >
+// the sides of a comparison.
 #[derive(Clone, Copy)]
 pub enum Separator {
     Space,

@@ -1,4 +1,6 @@
 // Tokens: the words that have a form, each borrowing its bytes.
+
+// A word of a line by its form. A sign is one of * + -.
 #[derive(Clone, Copy)]
 pub enum Token<'a> {
     Number(&'a [u8]),

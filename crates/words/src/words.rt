@@ -1,4 +1,4 @@
-// Which word a part of a line is.
+// How a part of a line is read as a word.
 ghost use mathlib.Core.Path.{_≡_};
 ghost use Rattle.std.specs.Options.{mapped};
 ghost use Rattle.words.specs.Language.{formOf, wordOf};
@@ -10,7 +10,7 @@ use crate::comparisons::is_comparison;
 use crate::leaves::is_leaf;
 use crate::numbers::is_number;
 
-// The token of a text that has a form.
+// The token of a text, or None where it has no form.
 fn token_of<'a>(text: &'a [u8]) -> Option<Token<'a>>
     ensures { λ r. ⌜ mapped seen r ≡ formOf (now (text .entry)) ⌝ }
 {
@@ -30,7 +30,7 @@ fn token_of<'a>(text: &'a [u8]) -> Option<Token<'a>>
     }
 }
 
-// The word that a part is, if it has a form.
+// The word that a part of a line is, or None where it has no form.
 pub fn word(part: Part<'_>) -> Option<Word<'_>>
     ensures { λ r. ⌜ mapped read r ≡ wordOf (shown (part .entry)) ⌝ }
 {

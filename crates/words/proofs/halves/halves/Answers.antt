@@ -1,4 +1,4 @@
-use mathlib.Core.Path.{_≡_, refl, sym, ap, _∙_}
+-- Each way out has seen as many parts as it needs to tell whether there are two.
 use Rattle.words.proofs.Cuts.{cut-parts}
 use Rattle.words.proofs.halves.halves.Needs as need
 

@@ -1,3 +1,4 @@
+-- At the start every column is to come.
 use mathlib.Core.Path.{ap, _∙_}
 use Rattle.words.specs.Meaning.{toCome}
 use Rattle.words.proofs.Columns.{none-yet}

@@ -1,3 +1,4 @@
+-- A number has 1 to 10 bytes, each of them a digit, and a value below the limit.
 use mathlib.Core.Path.{sym}
 use borrow.Author.Needs.{needs}
 use Rattle.words.specs.Language.{numberOf}

@@ -1,3 +1,4 @@
+-- The bytes so far are digits that write the value.
 use Rattle.words.proofs.Digits.{Sofar}
 use Rattle.words.proofs.numbers.number.Given as given
 

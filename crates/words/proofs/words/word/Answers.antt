@@ -1,3 +1,4 @@
+-- A word is its part's form at its part's place.
 use borrow.Author.Needs.{needs}
 use Rattle.words.specs.Language.{wordOf}
 use Rattle.words.proofs.words.word.Needs as need

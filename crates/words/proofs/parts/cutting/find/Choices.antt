@@ -1,3 +1,4 @@
+-- No byte so far is a separator.
 use Rattle.words.specs.Language.{separates}
 use Rattle.words.specs.Meaning.{Free}
 use Rattle.words.proofs.parts.cutting.find.Given as given

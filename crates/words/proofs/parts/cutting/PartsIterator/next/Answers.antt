@@ -1,3 +1,4 @@
+-- Each way out of `next` hands out the first of the parts to come.
 use mathlib.Core.Path.{ap}
 use native.Mathlib.Omega.{arith}
 use lib.ListN.{length}
