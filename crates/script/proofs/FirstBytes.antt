@@ -10,9 +10,9 @@ use lib.ListN.{length, take}
 use Rattle.std.proofs.shelf.Lists.{take-all, length-take-le}
 use Rattle.std.proofs.shelf.Tests.{lt-leb}
 use Rattle.std.specs.declared.option.Option.the-variants.{Some, None}
-use Rattle.script.specs.Lines.{lineRefusal}
+use Rattle.commands.specs.Lines.{lineRefusal}
 use Rattle.script.specs.Sessions.{By-first-bytes}
-use Rattle.script.specs.declared.refusal.Refusal.the-variants.{TooLong}
+use Rattle.commands.specs.declared.refusal.Refusal.the-variants.{TooLong}
 
 side : (n : ℕ) → (n ≤ 200) ⊎ (200 < n)
 side n = grind arith

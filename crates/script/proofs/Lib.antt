@@ -1,4 +1,2 @@
-mod Numbers
-mod Columns
 mod FirstBytes
 mod Gathered

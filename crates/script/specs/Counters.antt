@@ -10,9 +10,9 @@ use Rattle.store.specs.Rows.{arityIn}
 use Rattle.store.specs.Store.{Store, Put, Struck, putRefusal, strikeRefusal}
 use Rattle.store.specs.Tables.{tableModel}
 use Rattle.store.specs.declared.refusal.Refusal.{Refusal as SourceRefusal}
-use Rattle.script.specs.Lines.{lineRefusal, lineCommand}
-use Rattle.script.specs.declared.command.Command.{Command}
-use Rattle.script.specs.declared.command.Command.the-variants.{Enter, Strike}
+use Rattle.commands.specs.Lines.{lineRefusal, lineCommand}
+use Rattle.commands.specs.declared.command.Command.{Command}
+use Rattle.commands.specs.declared.command.Command.the-variants.{Enter, Strike}
 use Rattle.script.specs.declared.counter.Counter.{Counter}
 use Rattle.script.specs.declared.faults.Fault.{Fault}
 use Rattle.script.specs.declared.faults.Fault.the-variants.{Script, Source}

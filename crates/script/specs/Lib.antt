@@ -1,7 +1,4 @@
-pub mod Refusals
 pub mod Faults
-pub mod Verbs
-pub mod Lines
 pub mod Counters
 pub mod Printing
 pub mod Gathering

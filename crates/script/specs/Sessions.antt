@@ -7,7 +7,7 @@ use Rattle.std.specs.declared.option.Option.{Option}
 use Rattle.std.specs.declared.option.Option.the-variants.{Some, None}
 use Rattle.script.specs.Counters.{TellSays}
 use Rattle.script.specs.Gathering.{gathered}
-use Rattle.script.specs.Lines.{lineRefusal}
+use Rattle.commands.specs.Lines.{lineRefusal}
 use Rattle.script.specs.declared.reply.Said.{Said}
 use Rattle.script.specs.declared.session.Session.{Session}
 

@@ -2,7 +2,7 @@
 ghost use mathlib.Core.Path.{_≡_};
 ghost use Rattle.script.specs.Faults.{faultNotice};
 ghost use Rattle.script.specs.declared.faults.Fault.{Fault};
-use crate::refusal::Refusal;
+use commands::Refusal;
 use fault::Notice;
 
 #[derive(Clone, Copy)]

@@ -6,8 +6,8 @@ use lib.Chars.{codes}
 use Rattle.std.specs.declared.option.Option.{Option}
 use Rattle.std.specs.declared.option.Option.the-variants.{Some, None}
 use Rattle.store.specs.Lists.{sameNumbers}
-use Rattle.script.specs.declared.command.Verb.{Verb}
-use Rattle.script.specs.declared.command.Verb.the-variants.{Enter, Strike}
+use Rattle.commands.specs.declared.command.Verb.{Verb}
+use Rattle.commands.specs.declared.command.Verb.the-variants.{Enter, Strike}
 
 -- a word that is known commands something
 abbrev pub verbOf : List ℕ → Option Verb

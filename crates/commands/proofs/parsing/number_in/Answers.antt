@@ -1,7 +1,7 @@
 use mathlib.Core.Path.{_∙_}
 use Rattle.words.specs.Meaning.{shown, read}
-use Rattle.script.proofs.Numbers.{its-value, no-value}
-use Rattle.script.proofs.parsing.number_in.Needs as need
+use Rattle.commands.proofs.Numbers.{its-value, no-value}
+use Rattle.commands.proofs.parsing.number_in.Needs as need
 
 pub returns-in-Some : need.returns-in-Some
 returns-in-Some c = c .value-of .ensures ∙ its-value (shown (c .args .part)) (read (c .in-Some .found)) (c .in-Some .ensures tt)

@@ -3,9 +3,9 @@ use mathlib.Core.Bool.{_&&_}
 use Rattle.store.specs.Lists.{all}
 use Rattle.words.specs.Language.{texts}
 use Rattle.words.specs.Meaning.{shown, read, toCome}
-use Rattle.script.specs.Lines.{hasForm}
-use Rattle.script.proofs.Numbers.{has-form, has-none}
-use Rattle.script.proofs.parsing.have_forms.Needs as need
+use Rattle.commands.specs.Lines.{hasForm}
+use Rattle.commands.proofs.Numbers.{has-form, has-none}
+use Rattle.commands.proofs.parsing.have_forms.Needs as need
 
 pub returns-in-None-word : need.returns-in-None-word
 returns-in-None-word c =

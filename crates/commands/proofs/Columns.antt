@@ -12,7 +12,7 @@ use Rattle.std.specs.declared.option.Option.the-variants.{Some, None}
 use Rattle.std.proofs.shelf.Lists.{append-assoc, append-nil, drop-drop, drop-replicate, drop-set-lt, length-set, length-take-le, take-append-drop, take-more-set}
 use Rattle.std.proofs.shelf.Tests.{and-from, le-leb}
 use Rattle.words.specs.Language.{numberOf}
-use Rattle.script.specs.Lines.{numbersOf, prefixed, padded, columnsFrom}
+use Rattle.commands.specs.Lines.{numbersOf, prefixed, padded, columnsFrom}
 
 -- of all words, count were read into the columns, whose rest is zero, and the others are to come
 pub record Sofar (all : List (List ℕ)) (columns : List ℕ) (count : ℕ) (others : List (List ℕ)) : Type 0 where

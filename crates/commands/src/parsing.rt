@@ -4,7 +4,7 @@ ghost use lib.ListN.{drop};
 ghost use Rattle.store.specs.Lists.{all};
 ghost use Rattle.words.specs.Language.{numberOf, texts};
 ghost use Rattle.words.specs.Meaning.{toCome, seen};
-ghost use Rattle.script.specs.Lines.{wordsOf, verbIn, hasForm, relationIn, columnsFrom, rowFrom, commandOf, ParseSays, valueOf};
+ghost use Rattle.commands.specs.Lines.{wordsOf, verbIn, hasForm, relationIn, columnsFrom, rowFrom, commandOf, ParseSays, valueOf};
 use crate::command::Command;
 use crate::command::Verb;
 use crate::refusal::Refusal;

@@ -1,8 +1,8 @@
 -- What is told of the script's refusals.
 use Rattle.fault.specs.Notices.{notice}
 use Rattle.fault.specs.declared.notice.Notice.{Notice}
-use Rattle.script.specs.declared.refusal.Refusal.{Refusal}
-use Rattle.script.specs.declared.refusal.Refusal.the-variants.{TooLong, UnknownCommand, UnknownWord, Misplaced}
+use Rattle.commands.specs.declared.refusal.Refusal.{Refusal}
+use Rattle.commands.specs.declared.refusal.Refusal.the-variants.{TooLong, UnknownCommand, UnknownWord, Misplaced}
 
 -- the script's refusals have no position
 abbrev pub noticeOf : Refusal → Notice

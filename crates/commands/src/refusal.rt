@@ -1,6 +1,6 @@
 // Why a line is refused before anything is done.
 ghost use mathlib.Core.Path.{_≡_};
-ghost use Rattle.script.specs.Refusals.{noticeOf};
+ghost use Rattle.commands.specs.Refusals.{noticeOf};
 use fault::Notice;
 
 #[derive(Clone, Copy)]

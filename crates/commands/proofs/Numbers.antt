@@ -8,7 +8,7 @@ use Rattle.std.specs.declared.option.Option.{Option}
 use Rattle.std.specs.declared.option.Option.the-variants.{Some, None}
 use Rattle.std.proofs.shelf.Tests.{both-ways}
 use Rattle.words.specs.Language.{Form, number, leaf, comparison, sign, slash, formOf, numberOf, isNumber, isLeaf, isComparison, isPlanSign, isSlash, Placed, Formed, wordOf}
-use Rattle.script.specs.Lines.{valueOf, hasForm}
+use Rattle.commands.specs.Lines.{valueOf, hasForm}
 
 abbrev valueIn : Option Form → Option ℕ
 valueIn None = None

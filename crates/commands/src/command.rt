@@ -1,7 +1,7 @@
 // What a line commands.
 ghost use mathlib.Core.Path.{_≡_};
 ghost use Rattle.store.specs.Lists.{sameNumbers};
-ghost use Rattle.script.specs.Verbs.{verbOf};
+ghost use Rattle.commands.specs.Verbs.{verbOf};
 use store::Row;
 
 // The first words that are known.

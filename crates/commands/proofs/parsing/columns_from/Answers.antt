@@ -3,8 +3,8 @@ use mathlib.Core.List.{List, [], _∷_}
 use Prim.Native.Nat.{ℕ}
 use Rattle.words.specs.Language.{texts, Placed}
 use Rattle.words.specs.Meaning.{shown, toCome}
-use Rattle.script.proofs.Columns.{Sofar, one-more, all-read}
-use Rattle.script.proofs.parsing.columns_from.Needs as need
+use Rattle.commands.proofs.Columns.{Sofar, one-more, all-read}
+use Rattle.commands.proofs.parsing.columns_from.Needs as need
 
 pub loop-part-again : need.loop-part-again
 loop-part-again c =

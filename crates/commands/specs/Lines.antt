@@ -15,13 +15,13 @@ use Rattle.store.specs.Lists.{all}
 use Rattle.store.specs.declared.row.Row.{Row}
 use Rattle.words.specs.Language.{Form, number, leaf, comparison, sign, slash, numberOf, formOf, texts, partsOf}
 use Rattle.words.specs.declared.separators.Separator.the-variants.{Space}
-use Rattle.script.specs.Verbs.{verbOf}
-use Rattle.script.specs.declared.command.Verb.{Verb}
-use Rattle.script.specs.declared.command.Verb.the-variants.{Enter as VerbEnter, Strike as VerbStrike}
-use Rattle.script.specs.declared.command.Command.{Command}
-use Rattle.script.specs.declared.command.Command.the-variants.{Enter, Strike}
-use Rattle.script.specs.declared.refusal.Refusal.{Refusal}
-use Rattle.script.specs.declared.refusal.Refusal.the-variants.{TooLong, UnknownCommand, UnknownWord, Misplaced}
+use Rattle.commands.specs.Verbs.{verbOf}
+use Rattle.commands.specs.declared.command.Verb.{Verb}
+use Rattle.commands.specs.declared.command.Verb.the-variants.{Enter as VerbEnter, Strike as VerbStrike}
+use Rattle.commands.specs.declared.command.Command.{Command}
+use Rattle.commands.specs.declared.command.Command.the-variants.{Enter, Strike}
+use Rattle.commands.specs.declared.refusal.Refusal.{Refusal}
+use Rattle.commands.specs.declared.refusal.Refusal.the-variants.{TooLong, UnknownCommand, UnknownWord, Misplaced}
 
 -- the words of a line, parted by one space each
 abbrev pub wordsOf : List ℕ → List (List ℕ)
