@@ -1,2 +1,5 @@
-mod Numbers
+mod Rooms
+mod Forms
 mod Columns
+mod Ruling
+mod Examples

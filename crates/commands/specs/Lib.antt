@@ -1,3 +1,9 @@
 pub mod Refusals
 pub mod Verbs
+pub mod Numbers
+pub mod Rows
+pub mod Comparisons
+pub mod Rules
+pub mod Rooms
+pub mod Tasks
 pub mod Lines

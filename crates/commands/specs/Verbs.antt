@@ -6,11 +6,13 @@ use lib.Chars.{codes}
 use Rattle.std.specs.declared.option.Option.{Option}
 use Rattle.std.specs.declared.option.Option.the-variants.{Some, None}
 use Rattle.store.specs.Lists.{sameNumbers}
-use Rattle.commands.specs.declared.command.Verb.{Verb}
-use Rattle.commands.specs.declared.command.Verb.the-variants.{Enter, Strike}
+use Rattle.commands.specs.declared.verb.Verb.{Verb}
+use Rattle.commands.specs.declared.verb.Verb.the-variants.{Enter, Strike, Rule, Conflicts}
 
 -- a word that is known commands something
 abbrev pub verbOf : List ℕ → Option Verb
 verbOf word =
     cond (sameNumbers word (codes "enter")) (Some Enter)
-    (cond (sameNumbers word (codes "strike")) (Some Strike) None)
+    (cond (sameNumbers word (codes "strike")) (Some Strike)
+    (cond (sameNumbers word (codes "rule")) (Some Rule)
+    (cond (sameNumbers word (codes "conflicts")) (Some Conflicts) None)))

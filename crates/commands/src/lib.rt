@@ -5,7 +5,10 @@
 mod command;
 mod parsing;
 mod refusal;
+mod rule;
+mod verb;
 
 pub use command::Command;
 pub use parsing::parse;
 pub use refusal::Refusal;
+pub use rule::RuleText;

@@ -1,21 +1,28 @@
 // From a line to what it commands.
 ghost use mathlib.Core.Path.{_≡_};
-ghost use lib.ListN.{drop};
+ghost use Prim.Native.Nat.{_≤_};
+ghost use lib.ListN.{length, drop};
+ghost use Rattle.std.specs.Options.{mapped};
 ghost use Rattle.store.specs.Lists.{all};
-ghost use Rattle.words.specs.Language.{numberOf, texts};
-ghost use Rattle.words.specs.Meaning.{toCome, seen};
-ghost use Rattle.commands.specs.Lines.{wordsOf, verbIn, hasForm, relationIn, columnsFrom, rowFrom, commandOf, ParseSays, valueOf};
+ghost use Rattle.words.specs.Language.{texts};
+ghost use Rattle.words.specs.Meaning.{toCome};
+ghost use Rattle.commands.specs.Lines.{wordsOf, verbIn, hasForm, alone, taskFrom, ParseSays};
+ghost use Rattle.commands.specs.Tasks.{conflicts, taskOf};
+ghost use Rattle.commands.specs.Rooms.{room};
 use crate::command::Command;
-use crate::command::Verb;
 use crate::refusal::Refusal;
-use store::Row;
-use words::Part;
+use crate::verb::Verb;
+use row::row_from;
+use rule::rule_from;
 use words::Parts;
 use words::PartsIterator;
 use words::Separator;
-use words::Token;
-use words::number;
 use words::word;
+
+mod columns;
+mod comparison;
+mod row;
+mod rule;
 
 const MOST_BYTES: usize = 200;
 
@@ -49,7 +56,8 @@ fn verb_in(line: &[u8]) -> Option<Verb>
 
 // The words of a line behind its first.
 fn further(line: &[u8]) -> Parts<'_>
-    ensures { λ r. ⌜ texts (toCome r) ≡ drop 1 (wordsOf (now (line .entry))) ⌝ }
+    ensures words { λ r. ⌜ texts (toCome r) ≡ drop 1 (wordsOf (now (line .entry))) ⌝ }
+    ensures inside { λ r. ⌜ room (texts (toCome r)) ≤ length (now (line .entry)) ⌝ }
 {
     let mut words = Parts::new(line, Separator::Space);
     let _ = words.next();
@@ -70,71 +78,24 @@ fn have_forms(words: Parts<'_>) -> bool
 
 // What the verb and the words behind it command.
 fn command_of(verb: Verb, words: Parts<'_>) -> Option<Command>
-    ensures { λ r. ⌜ r ≡ commandOf verb (texts (toCome (words .entry))) ⌝ }
+    requires { ⌜ room (texts (toCome words)) ≤ 200 ⌝ }
+    ensures { λ r. ⌜ mapped taskOf r ≡ taskFrom verb (texts (toCome (words .entry))) ⌝ }
 {
-    let row = row_from(words)?;
-    Some(
-        match verb {
-            Verb::Enter => Command::Enter(row),
-            Verb::Strike => Command::Strike(row),
-        },
-    )
+    match verb {
+        Verb::Enter => Some(Command::Enter(row_from(words)?)),
+        Verb::Strike => Some(Command::Strike(row_from(words)?)),
+        Verb::Rule => Some(Command::Rule(rule_from(words)?)),
+        Verb::Conflicts => conflicts_from(words),
+    }
 }
 
-// A row from its words: a relation, and one to four columns.
-fn row_from(words: Parts<'_>) -> Option<Row>
-    ensures { λ r. ⌜ r ≡ rowFrom (texts (toCome (words .entry))) ⌝ }
+// The command to list the conflicts, which stands alone on its line.
+fn conflicts_from(words: Parts<'_>) -> Option<Command>
+    ensures { λ r. ⌜ mapped taskOf r ≡ alone conflicts (texts (toCome (words .entry))) ⌝ }
 {
     let mut words = words;
-    let relation = relation_in(words.next()?)?;
-    let columns = columns_from(words)?;
-    Some(Row { relation, columns })
-}
-
-// The relation that a word is.
-fn relation_in(part: Part<'_>) -> Option<u16>
-    ensures { λ r. ⌜ r ≡ relationIn (numberOf (now ((part .entry) .text))) ⌝ }
-{
-    let value = number_in(part)?;
-    if value <= u16::MAX as u32 {
-        Some(value as u16)
-    } else {
-        None
+    match words.next() {
+        Some(_) => None,
+        None => Some(Command::Conflicts),
     }
-}
-
-// The number that a word is.
-fn number_in(part: Part<'_>) -> Option<u32>
-    ensures { λ r. ⌜ r ≡ numberOf (now ((part .entry) .text)) ⌝ }
-{
-    match word(part) {
-        Some(found) => value_of(found.token),
-        None => None,
-    }
-}
-
-// The value of a token that is a number.
-fn value_of(token: Token<'_>) -> Option<u32>
-    ensures { λ r. ⌜ r ≡ valueOf (seen (token .entry)) ⌝ }
-{
-    match token {
-        Token::Number(digits) => number(digits),
-        _ => None,
-    }
-}
-
-// One to four columns, the rest zero.
-fn columns_from(words: Parts<'_>) -> Option<[u32; 4]>
-    ensures { λ r. ⌜ r ≡ columnsFrom (texts (toCome (words .entry))) ⌝ }
-{
-    let mut columns = [0; 4];
-    let mut count = 0;
-    for part in words {
-        if count == 4 {
-            return None;
-        }
-        columns[count] = number_in(part)?;
-        count += 1;
-    }
-    if count > 0 { Some(columns) } else { None }
 }

@@ -7,42 +7,68 @@ use Rattle.std.specs.declared.option.Option.the-variants.{Some, None}
 use Rattle.std.specs.declared.result.Result.{Result}
 use Rattle.std.specs.declared.result.Result.the-variants.{Ok, Err}
 use Rattle.store.specs.Rows.{arityIn}
-use Rattle.store.specs.Store.{Store, Put, Struck, putRefusal, strikeRefusal}
+use Rattle.store.specs.Store.{Store}
 use Rattle.store.specs.Tables.{tableModel}
-use Rattle.store.specs.declared.refusal.Refusal.{Refusal as SourceRefusal}
+use Rattle.rules.specs.Rules.{Denial}
+use Rattle.book.specs.Books.{rulesOf}
+use Rattle.book.specs.Calls.{StepSays}
+use Rattle.book.specs.Outcomes.{toldOf}
+use Rattle.book.specs.Plain.{Asked, entering, striking, ruling}
+use Rattle.book.specs.Queries.{Counts}
+use Rattle.book.specs.Runs.{LivesOn}
+use Rattle.book.specs.declared.call.Outcome.{Outcome}
+use Rattle.book.specs.declared.call.Outcome.the-variants.{Taken as WasTaken, Ruled, Refused}
+use Rattle.book.specs.declared.refusal.Refusal.{Refusal as BookRefusal}
 use Rattle.commands.specs.Lines.{lineRefusal, lineCommand}
-use Rattle.commands.specs.declared.command.Command.{Command}
-use Rattle.commands.specs.declared.command.Command.the-variants.{Enter, Strike}
+use Rattle.commands.specs.Tasks.{Task, enter, strike, rule, conflicts}
 use Rattle.script.specs.declared.counter.Counter.{Counter}
 use Rattle.script.specs.declared.faults.Fault.{Fault}
-use Rattle.script.specs.declared.faults.Fault.the-variants.{Script, Source}
+use Rattle.script.specs.declared.faults.Fault.the-variants.{Script, Book}
 use Rattle.script.specs.declared.reply.Reply.{Reply}
-use Rattle.script.specs.declared.reply.Reply.the-variants.{Taken}
+use Rattle.script.specs.declared.reply.Reply.the-variants.{Taken, Conflicts}
 use Rattle.script.specs.declared.reply.Said.{Said}
 
 -- the rink's relations: Ice, Held, Void and Flood have a pad and a slot, Party has a club too
 abbrev pub rinkArity : ℕ → ℕ
 rinkArity = arityIn (2 ∷ 2 ∷ 2 ∷ 3 ∷ 2 ∷ [])
 
--- a command that is done changes one place
-abbrev pub Done : Store → Store → Command → Type 0
-Done before after (Enter row) = (p : ℕ) × Put before after row p
-Done before after (Strike row) = (p : ℕ) × Struck before after row p
+-- the rows that a counter holds, and its rules
+abbrev pub storeOf : Counter → Store
+storeOf c = tableModel (c .book .source)
 
--- the refusal that the source has for a command, if it has one
-abbrev pub sourceRefusal : Store → Command → Option SourceRefusal
-sourceRefusal s (Enter row) = putRefusal s row
-sourceRefusal s (Strike row) = strikeRefusal s row
+abbrev pub rulesIn : Counter → List Denial
+rulesIn c = rulesOf (c .book .log)
 
--- what comes of a line: it is taken and done, or refused by the script or by the source, and then nothing changes
-abbrev pub DoSays : Store → Store → List ℕ → Result Reply Fault → Type 0
-DoSays before after line (Ok Taken) = (lineRefusal line ≡ None) × ((command : Command) × (lineCommand line ≡ Some command) × Done before after command)
-DoSays before after line (Err (Script e)) = (after ≡ before) × (lineRefusal line ≡ Some e)
-DoSays before after line (Err (Source e)) =
-    (after ≡ before) × (lineRefusal line ≡ None) × ((command : Command) × (lineCommand line ≡ Some command) × (sourceRefusal before command ≡ Some e))
+-- a row or a rule that is taken is answered so, and a refusal is handed on
+abbrev pub answerTo : Outcome → Result Reply BookRefusal
+answerTo WasTaken = Ok Taken
+answerTo (Ruled n) = Ok Taken
+answerTo (Refused e) = Err e
+
+-- what the book does when it is asked this, and that every lawful life so far goes on with it
+abbrev pub CallSays : Store → List Denial → Store → List Denial → Asked → Result Reply BookRefusal → Type 0
+CallSays s rules s′ rules′ asked result =
+    (outcome : Outcome) × (result ≡ answerTo outcome) × StepSays s rules s′ rules′ asked outcome × LivesOn s rules s′ rules′ asked (toldOf outcome)
+
+-- what comes of a task: a call of the book, or the number of conflicts
+abbrev pub TaskSays : Store → List Denial → Store → List Denial → Task → Result Reply BookRefusal → Type 0
+TaskSays s rules s′ rules′ (enter row) result = CallSays s rules s′ rules′ (entering row) result
+TaskSays s rules s′ rules′ (strike row) result = CallSays s rules s′ rules′ (striking row) result
+TaskSays s rules s′ rules′ (rule r) result = CallSays s rules s′ rules′ (ruling r) result
+TaskSays s rules s′ rules′ conflicts result = (s′ ≡ s) × (rules′ ≡ rules) × ((n : ℕ) × (result ≡ Ok (Conflicts n)) × Counts s rules n)
+
+-- the line is not refused by the script, and this comes of what it commands
+abbrev pub Commanded : Store → List Denial → Store → List Denial → List ℕ → Result Reply BookRefusal → Type 0
+Commanded s rules s′ rules′ line result = (lineRefusal line ≡ None) × ((task : Task) × (lineCommand line ≡ Some task) × TaskSays s rules s′ rules′ task result)
+
+-- what comes of a line; where the script refuses it, nothing changes
+abbrev pub DoSays : Store → List Denial → Store → List Denial → List ℕ → Result Reply Fault → Type 0
+DoSays s rules s′ rules′ line (Ok reply) = Commanded s rules s′ rules′ line (Ok reply)
+DoSays s rules s′ rules′ line (Err (Book e)) = Commanded s rules s′ rules′ line (Err e)
+DoSays s rules s′ rules′ line (Err (Script e)) = (s′ ≡ s) × (rules′ ≡ rules) × (lineRefusal line ≡ Some e)
 
 -- the line's number is one more than the lines told before, and its outcome is what comes of it
 pub record TellSays (before after : Counter) (line : List ℕ) (said : Said) : Type 0 where
   pub counted : after .lines ≡ min (before .lines + 1) (2 ^ 64 - 1)
   pub number : said .line ≡ after .lines
-  pub outcome : DoSays (tableModel (before .table)) (tableModel (after .table)) line (said .outcome)
+  pub outcome : DoSays (storeOf before) (rulesIn before) (storeOf after) (rulesIn after) line (said .outcome)

@@ -10,7 +10,7 @@ use Rattle.fault.specs.declared.notice.Notice.{Notice}
 use Rattle.script.specs.Faults.{faultNotice}
 use Rattle.script.specs.declared.faults.Fault.{Fault}
 use Rattle.script.specs.declared.reply.Reply.{Reply}
-use Rattle.script.specs.declared.reply.Reply.the-variants.{Taken}
+use Rattle.script.specs.declared.reply.Reply.the-variants.{Taken, Conflicts}
 use Rattle.script.specs.declared.reply.Said.{Said}
 
 -- a refusal is told with its number, its layer and the line's number
@@ -19,6 +19,7 @@ refusedWords notice line = codes "refused " ++ (decimal (notice .number) ++ (cod
 
 abbrev pub outcomeWords : Result Reply Fault → ℕ → List ℕ
 outcomeWords (Ok Taken) line = codes "taken"
+outcomeWords (Ok (Conflicts n)) line = codes "conflicts " ++ decimal n
 outcomeWords (Err e) line = refusedWords (faultNotice e) line
 
 -- what is said of a line, in words

@@ -2,13 +2,12 @@
 ghost use mathlib.Core.Path.{_≡_};
 ghost use Rattle.script.specs.Faults.{faultNotice};
 ghost use Rattle.script.specs.declared.faults.Fault.{Fault};
-use commands::Refusal;
 use fault::Notice;
 
 #[derive(Clone, Copy)]
 pub enum Fault {
-    Script(Refusal),
-    Source(store::Refusal),
+    Script(commands::Refusal),
+    Book(book::Refusal),
 }
 
 impl Fault {
@@ -18,23 +17,23 @@ impl Fault {
     {
         match self {
             Fault::Script(refusal) => refusal.notice(),
-            Fault::Source(refusal) => refusal.notice(),
+            Fault::Book(refusal) => refusal.notice(),
         }
     }
 }
 
-pub impl From<Refusal> for Fault as FaultFromScript {
+pub impl From<commands::Refusal> for Fault as FaultFromScript {
     ghost converts = { λ refusal r. r ≡ Fault.Script refusal };
 
-    fn from(refusal: Refusal) -> Fault {
+    fn from(refusal: commands::Refusal) -> Fault {
         Fault::Script(refusal)
     }
 }
 
-pub impl From<store::Refusal> for Fault as FaultFromSource {
-    ghost converts = { λ refusal r. r ≡ Fault.Source refusal };
+pub impl From<book::Refusal> for Fault as FaultFromBook {
+    ghost converts = { λ refusal r. r ≡ Fault.Book refusal };
 
-    fn from(refusal: store::Refusal) -> Fault {
-        Fault::Source(refusal)
+    fn from(refusal: book::Refusal) -> Fault {
+        Fault::Book(refusal)
     }
 }

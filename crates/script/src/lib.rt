@@ -1,4 +1,4 @@
-// The script: lines come in, what they command is done on a table, and words say how that went.
+// The script: lines come in, what they command is done on a book, and words say how that went.
 mod counter;
 mod faults;
 mod pending;

@@ -12,6 +12,7 @@ pub impl fmt::Display for Said as SaidDisplay {
     fn fmt<W: fmt::Write>(&self, f: &mut fmt::Formatter<W>) -> fmt::Result {
         match self.outcome {
             Ok(Reply::Taken) => f.write_str("taken"),
+            Ok(Reply::Conflicts(count)) => write!(f, "conflicts {count}"),
             Err(fault) => {
                 let notice = fault.notice();
                 let number = notice.number;

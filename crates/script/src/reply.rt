@@ -5,6 +5,7 @@ use crate::faults::Fault;
 #[derive(Clone, Copy)]
 pub enum Reply {
     Taken,
+    Conflicts(usize),
 }
 
 // The outcome of a line, and the line's number from 1.

@@ -1,19 +1,23 @@
 // What the counter does with a line, and what it says of it.
 ghost use mathlib.Core.Path.{_≡_};
-ghost use Prim.Native.Nat.{ℕ, _+_, min};
+ghost use mathlib.Core.List.{[]};
+ghost use Prim.Native.Nat.{ℕ};
 ghost use lib.ListN.{replicate};
 ghost use Rattle.std.specs.declared.option.Option.the-variants.{None};
-ghost use Rattle.store.specs.Tables.{tableModel};
-ghost use Rattle.script.specs.Counters.{rinkArity, DoSays, TellSays};
+ghost use Rattle.book.specs.Outcomes.{askedBy};
+ghost use Rattle.book.specs.Runs.{opened, opening, Life};
+ghost use Rattle.script.specs.Counters.{rinkArity, storeOf, rulesIn, CallSays, DoSays, TellSays};
 use super::Counter;
 use crate::faults::Fault;
+use crate::faults::FaultFromBook;
 use crate::faults::FaultFromScript;
-use crate::faults::FaultFromSource;
 use crate::reply::Reply;
 use crate::reply::Said;
+use book::Book;
+use book::Call;
+use book::Outcome;
 use commands::Command;
 use commands::parse;
-use store::Source;
 use store::Table;
 use store::TableSource;
 
@@ -21,14 +25,16 @@ use store::TableSource;
 const ARITIES: [u8; 5] = [2, 2, 2, 3, 2];
 
 impl Counter {
-    // A counter with the rink's relations and no rows, that was told no line yet.
+    // A counter with the rink's relations, no rows and no rules, that was told no line yet.
     pub fn new() -> Counter
-        ensures rows { λ r. ⌜ tableModel (r .table) .places ≡ replicate 64 None ⌝ }
-        ensures arities { λ r. ⌜ ((relation : ℕ) → tableModel (r .table) .arity relation ≡ rinkArity relation) ⌝ }
+        ensures rows { λ r. ⌜ storeOf r .places ≡ replicate 64 None ⌝ }
+        ensures arities { λ r. ⌜ ((relation : ℕ) → storeOf r .arity relation ≡ rinkArity relation) ⌝ }
+        ensures rules { λ r. ⌜ rulesIn r ≡ [] ⌝ }
         ensures lines { λ r. ⌜ r .lines ≡ 0 ⌝ }
+        ensures law { λ r. ⌜ Life (opening (opened (storeOf r))) (storeOf r) (rulesIn r) ⌝ }
     {
         Counter {
-            table: Table::new(&ARITIES),
+            book: Book::open(Table::new(&ARITIES)),
             lines: 0,
         }
     }
@@ -37,26 +43,39 @@ impl Counter {
     pub fn tell(&mut self, line: &[u8]) -> Said
         ensures { λ r. ⌜ TellSays (now (self .entry)) (now (self .exit)) (now (line .entry)) r ⌝ }
     {
+        let outcome = self.carry_out(line);
         self.lines = self.lines.saturating_add(1);
         Said {
-            outcome: self.carry_out(line),
+            outcome,
             line: self.lines,
         }
     }
 
-    // What comes of a line: a refusal of the script, or what the table answers.
+    // What comes of a line: a refusal of the script, or what the book answers.
     fn carry_out(&mut self, line: &[u8]) -> Result<Reply, Fault>
         ensures same { λ _. ⌜ now (self .exit) .lines ≡ now (self .entry) .lines ⌝ }
-        ensures says { λ r. ⌜ DoSays (tableModel (now (self .entry) .table)) (tableModel (now (self .exit) .table)) (now (line .entry)) r ⌝ }
+        ensures says { λ r. ⌜ DoSays (storeOf (now (self .entry))) (rulesIn (now (self .entry))) (storeOf (now (self .exit))) (rulesIn (now (self .exit))) (now (line .entry)) r ⌝ }
     {
         match parse(line)? {
-            Command::Enter(row) => {
-                self.table.put(&row)?;
-            }
-            Command::Strike(row) => {
-                self.table.strike(&row)?;
-            }
+            Command::Enter(row) => Ok(self.call(Call::Enter(row))?),
+            Command::Strike(row) => Ok(self.call(Call::Strike(row))?),
+            Command::Rule(text) => Ok(self.call(Call::Rule {
+                atoms: text.atoms(),
+                comparisons: text.comparisons(),
+            })?),
+            Command::Conflicts => Ok(Reply::Conflicts(self.book.conflicts())),
         }
-        Ok(Reply::Taken)
+    }
+
+    // What comes of one call of the book.
+    fn call(&mut self, call: Call<'_>) -> Result<Reply, book::Refusal>
+        ensures same { λ _. ⌜ now (self .exit) .lines ≡ now (self .entry) .lines ⌝ }
+        ensures says { λ r. ⌜ CallSays (storeOf (now (self .entry))) (rulesIn (now (self .entry))) (storeOf (now (self .exit))) (rulesIn (now (self .exit))) (askedBy (call .entry)) r ⌝ }
+    {
+        match self.book.step(call) {
+            Outcome::Taken => Ok(Reply::Taken),
+            Outcome::Ruled(_) => Ok(Reply::Taken),
+            Outcome::Refused(refusal) => Err(refusal),
+        }
     }
 }

@@ -4,7 +4,7 @@ use Rattle.store.specs.Lists.{all}
 use Rattle.words.specs.Language.{texts}
 use Rattle.words.specs.Meaning.{shown, read, toCome}
 use Rattle.commands.specs.Lines.{hasForm}
-use Rattle.commands.proofs.Numbers.{has-form, has-none}
+use Rattle.commands.proofs.Forms.{has-form, has-none}
 use Rattle.commands.proofs.parsing.have_forms.Needs as need
 
 pub returns-in-None-word : need.returns-in-None-word
