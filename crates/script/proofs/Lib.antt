@@ -1,2 +1,3 @@
 mod FirstBytes
 mod Gathered
+mod Sound

@@ -50,16 +50,21 @@ abbrev pub CallSays : Store → List Denial → Store → List Denial → Asked 
 CallSays s rules s′ rules′ asked result =
     (outcome : Outcome) × (result ≡ answerTo outcome) × StepSays s rules s′ rules′ asked outcome × LivesOn s rules s′ rules′ asked (toldOf outcome)
 
--- what comes of a task: a call of the book, or the number of conflicts
-abbrev pub TaskSays : Store → List Denial → Store → List Denial → Task → Result Reply BookRefusal → Type 0
-TaskSays s rules s′ rules′ (enter row) result = CallSays s rules s′ rules′ (entering row) result
-TaskSays s rules s′ rules′ (strike row) result = CallSays s rules s′ rules′ (striking row) result
-TaskSays s rules s′ rules′ (rule r) result = CallSays s rules s′ rules′ (ruling r) result
-TaskSays s rules s′ rules′ conflicts result = (s′ ≡ s) × (rules′ ≡ rules) × ((n : ℕ) × (result ≡ Ok (Conflicts n)) × Counts s rules n)
+-- what a task asks of the book; `conflicts` only wants a number told
+abbrev pub askedOf : Task → Option Asked
+askedOf (enter row) = Some (entering row)
+askedOf (strike row) = Some (striking row)
+askedOf (rule r) = Some (ruling r)
+askedOf conflicts = None
+
+-- what comes of it: what the book does, or the number of conflicts, and then nothing changes
+abbrev pub AnswerSays : Store → List Denial → Store → List Denial → Option Asked → Result Reply BookRefusal → Type 0
+AnswerSays s rules s′ rules′ (Some asked) result = CallSays s rules s′ rules′ asked result
+AnswerSays s rules s′ rules′ None result = (s′ ≡ s) × (rules′ ≡ rules) × ((n : ℕ) × (result ≡ Ok (Conflicts n)) × Counts s rules n)
 
 -- the line is not refused by the script, and this comes of what it commands
 abbrev pub Commanded : Store → List Denial → Store → List Denial → List ℕ → Result Reply BookRefusal → Type 0
-Commanded s rules s′ rules′ line result = (lineRefusal line ≡ None) × ((task : Task) × (lineCommand line ≡ Some task) × TaskSays s rules s′ rules′ task result)
+Commanded s rules s′ rules′ line result = (lineRefusal line ≡ None) × ((task : Task) × (lineCommand line ≡ Some task) × AnswerSays s rules s′ rules′ (askedOf task) result)
 
 -- what comes of a line; where the script refuses it, nothing changes
 abbrev pub DoSays : Store → List Denial → Store → List Denial → List ℕ → Result Reply Fault → Type 0

@@ -6,7 +6,9 @@ ghost use lib.ListN.{replicate};
 ghost use Rattle.std.specs.declared.option.Option.the-variants.{None};
 ghost use Rattle.book.specs.Outcomes.{askedBy};
 ghost use Rattle.book.specs.Runs.{opened, opening, Life};
-ghost use Rattle.script.specs.Counters.{rinkArity, storeOf, rulesIn, CallSays, DoSays, TellSays};
+ghost use Rattle.std.specs.Options.{mapped};
+ghost use Rattle.script.specs.Counters.{rinkArity, storeOf, rulesIn, askedOf, CallSays, AnswerSays, DoSays, TellSays};
+ghost use Rattle.commands.specs.Tasks.{taskOf};
 use super::Counter;
 use crate::faults::Fault;
 use crate::faults::FaultFromBook;
@@ -56,14 +58,18 @@ impl Counter {
         ensures same { λ _. ⌜ now (self .exit) .lines ≡ now (self .entry) .lines ⌝ }
         ensures says { λ r. ⌜ DoSays (storeOf (now (self .entry))) (rulesIn (now (self .entry))) (storeOf (now (self .exit))) (rulesIn (now (self .exit))) (now (line .entry)) r ⌝ }
     {
-        match parse(line)? {
-            Command::Enter(row) => Ok(self.call(Call::Enter(row))?),
-            Command::Strike(row) => Ok(self.call(Call::Strike(row))?),
-            Command::Rule(text) => Ok(self.call(Call::Rule {
-                atoms: text.atoms(),
-                comparisons: text.comparisons(),
-            })?),
-            Command::Conflicts => Ok(Reply::Conflicts(self.book.conflicts())),
+        let command = parse(line)?;
+        Ok(self.follow(&command)?)
+    }
+
+    // What comes of a command.
+    fn follow(&mut self, command: &Command) -> Result<Reply, book::Refusal>
+        ensures same { λ _. ⌜ now (self .exit) .lines ≡ now (self .entry) .lines ⌝ }
+        ensures says { λ r. ⌜ AnswerSays (storeOf (now (self .entry))) (rulesIn (now (self .entry))) (storeOf (now (self .exit))) (rulesIn (now (self .exit))) (askedOf (taskOf (now (command .entry)))) r ⌝ }
+    {
+        match call_of(command) {
+            Some(call) => self.call(call),
+            None => Ok(Reply::Conflicts(self.book.conflicts())),
         }
     }
 
@@ -77,5 +83,20 @@ impl Counter {
             Outcome::Ruled(_) => Ok(Reply::Taken),
             Outcome::Refused(refusal) => Err(refusal),
         }
+    }
+}
+
+// The call of the book that a command makes; `conflicts` only asks for a number.
+fn call_of(command: &Command) -> Option<Call<'_>>
+    ensures { λ r. ⌜ mapped askedBy r ≡ askedOf (taskOf (now (command .entry))) ⌝ }
+{
+    match command {
+        Command::Enter(row) => Some(Call::Enter(*row)),
+        Command::Strike(row) => Some(Call::Strike(*row)),
+        Command::Rule(text) => Some(Call::Rule {
+            atoms: text.atoms(),
+            comparisons: text.comparisons(),
+        }),
+        Command::Conflicts => None,
     }
 }

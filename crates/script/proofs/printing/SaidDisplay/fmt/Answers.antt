@@ -10,4 +10,4 @@ pub returns-in-Err : need.returns-in-Err
 returns-in-Err g c =
     let line = c .args .self .now .line in
     let told = ap (λ (n : Notice). refusedWords n line) (c .notice-notice .ensures) ∙ ap (λ o. outcomeWords o line) (sym (c .in-Err .is)) in
-    λ plain ok. subst (λ (bs : List ℕ). Put (g .W·Write .took) (c .args .f .now) bs (c .write .last .self)) told (c .write .ensures .shows plain ok)
+    λ plain ok. subst (λ (bs : List ℕ). Put (g .W·Write .took) (c .args .f .now) bs (c .write-in-Err .last .self)) told (c .write-in-Err .ensures .shows plain ok)
