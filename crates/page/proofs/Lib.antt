@@ -1,0 +1,9 @@
+pub mod Asked
+pub mod Numbers
+pub mod Chunks
+pub mod Exact
+pub mod Pages
+pub mod Passing
+pub mod Kept
+pub mod Opened
+pub mod Laid

@@ -1,0 +1,10 @@
+use mathlib.Core.Path.{_≡_}
+use mathlib.Core.Bool.{true}
+use mathlib.Core.List.{[]}
+use Prim.Native.Nat.{ℕ, _<_}
+use lib.ListN.{getD}
+use Rattle.page.specs.Records.{isMarked}
+use Rattle.page.proofs.checking.check_marks.Given as given
+
+abbrev pub Inv-loop-place : given.InvT-loop-place
+Inv-loop-place l = (k : ℕ) → k < l .place → isMarked (getD (l .records) k []) ≡ true

@@ -1,0 +1,12 @@
+pub mod Refusals
+pub mod Leaves
+pub mod Nodes
+pub mod Answers
+pub mod Filling
+pub mod Gathering
+pub mod Parts
+pub mod Plans
+pub mod Truths
+pub mod Streams
+pub mod Seeking
+pub mod Laws
