@@ -102,7 +102,7 @@ module _ (s : Store) (rules after : List Denial) (rule : Denial) where
       let number : ruled n ≡ ruled (length (p .rules)) = ap ruled (is ∙ ap length (sym (both .taken))) in
       on h s s rules after (ruling rule) (ruled n) life (withRule p rule)
       (goes-on _ p (ruled n) (withRule p rule) (ruleNo p rule) (rule-room p both at-room ∙ ap (mapped ruleNumber) granted)
-        (inl (few-ruled p s rules both rule (subst (AtMost most _) last few), number, refl)))
+      (inl (few-ruled p s rules both rule (subst (AtMost most _) last few), number, refl)))
       (agrees-ruled p s rules both rule after last)
   rule-lives (Err (Source e)) no-way h life = absurd no-way
   rule-lives (Err EntryConflicts) no-way h life = absurd no-way

@@ -18,7 +18,6 @@ pub use call::Call;
 pub use call::Outcome;
 pub use forbidden::Forbidden;
 pub use log::Log;
-
 pub use recorder::Recorder;
 pub use refusal::Refusal;
 pub use runs::session;

@@ -1,8 +1,6 @@
-// Calls that know what became of the caller's bytes once the source over them is gone.
+// A call that knows what became of the caller's bytes once the source over them is gone.
 ghost use mathlib.Core.Path.{_≡_};
-ghost use Rattle.std.specs.declared.option.Option.the-variants.{None};
-ghost use Rattle.page.specs.Checks.{checkRefusal};
-ghost use Rattle.page.specs.Pages.{placesOf, pageOf};
+ghost use Rattle.store.specs.Store.{PutSays};
 ghost use Rattle.page_examples.specs.Entering.{EnterSays};
 use page::Page;
 use page::PageSource;
@@ -19,6 +17,16 @@ pub enum Hindrance {
     NoRow(store::Refusal),
 }
 
+// Puts the row into a source of any kind; it stands for code that knows nothing of pages.
+fn put_into<S: Source>(source: &mut S, row: &Row) -> Result<usize, store::Refusal>
+    requires { ⌜ S·Source .fine (now source) ⌝ }
+    ensures fine { λ _. ⌜ S·Source .fine (now (source .exit)) ⌝ }
+    ensures anchor { λ _. ⌜ S·Source .anchor (now (source .exit)) ≡ S·Source .anchor (now (source .entry)) ⌝ }
+    ensures says { λ r. ⌜ PutSays (S·Source .model (now (source .entry))) (S·Source .model (now (source .exit))) (now (row .entry)) r ⌝ }
+{
+    source.put(row)
+}
+
 // Puts the row into the page that the bytes are, and tells its place. The bytes are then the page of
 // the rows with this one; where nothing is put they stay as they were.
 pub fn enter(arities: &[u8], bytes: &mut [u8], row: &Row) -> Result<usize, Hindrance>
@@ -28,31 +36,8 @@ pub fn enter(arities: &[u8], bytes: &mut [u8], row: &Row) -> Result<usize, Hindr
         return Err(Hindrance::NoPage(refusal));
     }
     let mut page = Page::open(arities, bytes);
-    match page.put(row) {
+    match put_into(&mut page, row) {
         Ok(place) => Ok(place),
         Err(refusal) => Err(Hindrance::NoRow(refusal)),
     }
-}
-
-// Puts the rows that the source takes, and tells how many.
-pub fn put_all<S: Source>(source: &mut S, rows: &[Row]) -> usize
-    requires { ⌜ S·Source .fine (now source) ⌝ }
-    ensures fine { λ _. ⌜ S·Source .fine (now (source .exit)) ⌝ }
-    ensures anchor { λ _. ⌜ S·Source .anchor (now (source .exit)) ≡ S·Source .anchor (now (source .entry)) ⌝ }
-{
-    let mut count = 0;
-    for row in rows {
-        if let Ok(_) = source.put(row) {
-            count += 1;
-        }
-    }
-    count
-}
-
-// Puts the rows that the page takes, by code that knows nothing of pages: the bytes are a page still.
-pub fn enter_all(arities: &[u8], bytes: &mut [u8], rows: &[Row]) -> usize
-    ensures { λ r. ⌜ (checkRefusal (now (bytes .entry)) (now (arities .entry)) ≡ None → pageOf (placesOf (now (bytes .exit))) ≡ now (bytes .exit)) ⌝ }
-{
-    let mut page = Page::open(arities, bytes);
-    put_all(&mut page, rows)
 }

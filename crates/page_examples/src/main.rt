@@ -3,7 +3,6 @@ mod entering;
 mod showing;
 
 use entering::enter;
-use entering::enter_all;
 use page::Page;
 use page::PageSource;
 use page::write_page;
@@ -43,15 +42,16 @@ fn change(rt: &LibcRuntime, arities: &[u8], bytes: &mut [u8]) -> io::Result<()> 
     tell(rt, "strike 0: 7 258", told)
 }
 
-// Puts rows by calls that take the bytes.
+// Puts rows by a call that takes the bytes.
 fn fill(rt: &LibcRuntime, arities: &[u8], bytes: &mut [u8]) -> io::Result<()> {
     let told = enter(arities, bytes, &pair(0, 1, 2));
     show_entry(rt, "enter 0: 1 2", told)?;
     let told = enter(arities, bytes, &pair(0, 1, 2));
     show_entry(rt, "enter 0: 1 2", told)?;
-    let rows = [pair(0, 1, 3), pair(0, 1, 2), pair(1, 9, 0), pair(3, 8, 8)];
-    let taken = enter_all(arities, bytes, &rows);
-    println!(rt, "{taken} of 4 more rows taken")
+    let told = enter(arities, bytes, &pair(3, 8, 8));
+    show_entry(rt, "enter 3: 8 8", told)?;
+    let told = enter(arities, bytes, &pair(0, 1, 3));
+    show_entry(rt, "enter 0: 1 3", told)
 }
 
 fn main(rt: LibcRuntime) -> io::Result<()> {
@@ -69,6 +69,10 @@ fn main(rt: LibcRuntime) -> io::Result<()> {
     show_rows(&rt, &arities, &mut bytes)?;
     bytes[41] = 0;
     show_check(&rt, &arities, &bytes)?;
-    show_entry(&rt, "enter 0: 5 5", enter(&arities, &mut bytes, &pair(0, 5, 5)))?;
+    show_entry(
+        &rt,
+        "enter 0: 5 5",
+        enter(&arities, &mut bytes, &pair(0, 5, 5)),
+    )?;
     show_rows(&rt, &arities, &mut bytes)
 }

@@ -75,7 +75,15 @@ pub fn tell(rt: &LibcRuntime, asked: &str, told: Result<usize, Refusal>) -> io::
 pub fn show_entry(rt: &LibcRuntime, asked: &str, told: Result<usize, Hindrance>) -> io::Result<()> {
     match told {
         Ok(place) => println!(rt, "{asked}: place {place}"),
-        Err(Hindrance::NoPage(refusal)) => println!(rt, "{asked}: no page, refusal {}", refusal.notice().number),
-        Err(Hindrance::NoRow(refusal)) => println!(rt, "{asked}: refusal {}", refusal.notice().number),
+        Err(Hindrance::NoPage(refusal)) => println!(
+            rt,
+            "{asked}: no page, refusal {}",
+            refusal.notice().number
+        ),
+        Err(Hindrance::NoRow(refusal)) => println!(
+            rt,
+            "{asked}: refusal {}",
+            refusal.notice().number
+        ),
     }
 }

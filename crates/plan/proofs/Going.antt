@@ -89,7 +89,6 @@ pub remain-less : (cs : List (List ℕ)) (w : ℕ) (a : List ℕ) (o : Option (L
 remain-less cs w a None f = omega arith
 remain-less cs w a (Some b) (j, s, f, l, z) = omega (arith, later-less (take w a) (take w b) s cs j)
 
-
 -- A loop over a choice's lines that began at `from`, the least of those reached.
 abbrev pub Goes : List (List ℕ) → (List ℕ → Bool) → ℕ → Option (List ℕ) → Option (List ℕ) → Type 0
 Goes cs test w None o = o ≡ None

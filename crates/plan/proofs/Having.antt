@@ -93,7 +93,7 @@ module _ (relation : ℕ) (fields : List Field) (rows : List Row) where
       let is : r ≡ named relation fields t = (λ j. record { relation = at j; columns = columns j }) in
       row-has (subst (λ x. List·Memᴰ x rows) is i))
       (λ h. leaf-put (named relation fields t) t (row-in (named relation fields t) rows h)
-        (and-from (eqb relation relation) (matches fields (filled fields t)) (eq-eqb relation relation refl) (matches-filled fields t long)) (opened-filled fields t long))
+      (and-from (eqb relation relation) (matches fields (filled fields t)) (eq-eqb relation relation refl) (matches-filled fields t long)) (opened-filled fields t long))
 
 -- ---- lines as eight columns
 zeros : (xs : List ℕ) → all (eqb 0) xs ≡ true → xs ≡ replicate (length xs) 0

@@ -25,22 +25,32 @@ module _ (start : Start) (at : List ℕ) (w : ℕ) where
   least-none t m = elim m [ ]
 
   both-some : (ps qs : List (List ℕ)) (x y : List ℕ) → Least ps start at w (Some x) → Least qs start at w (Some y) → (b : Bool) → before (take w y) (take w x) ≡ b → Least (ps ++ qs) start at w (cond b (Some y) (Some x))
-  both-some ps qs x y (i, r, f, l, z) (j, s, g, m, v) true e =
-      (Memᴰ·append-right ps j, s, (λ t n q. elim (List·Memᴰ·append-cases ps n) [
-        | inl a ↦ from-not (before t (take w y)) (λ k. both-ways (before t (take w x)) (f t a q) (transitive t (take w y) (take w x) k e))
-        | inr a ↦ g t a q
-      ]), m, v)
-  both-some ps qs x y (i, r, f, l, z) (j, s, g, m, v) false e =
-      (Memᴰ·append-left qs i, r, (λ t n q. elim (List·Memᴰ·append-cases ps n) [
-        | inl a ↦ f t a q
-        | inr a ↦ from-not (before t (take w x)) (λ k. elim (compared t (take w y)) [
-          | inl o ↦ both-ways (before t (take w y)) (g t a q) o
-          | inr o ↦ elim o [
-            | inl p ↦ both-ways (before (take w y) (take w x)) e (subst (λ u. before u (take w x) ≡ true) p k)
-            | inr p ↦ both-ways (before (take w y) (take w x)) e (transitive (take w y) t (take w x) p k)
-          ]
-        ])
-      ]), l, z)
+  both-some ps qs x y (i, r, f, l, z) (j, s, g, m, v) true e = (
+    Memᴰ·append-right ps j,
+    s,
+    (λ t n q. elim (List·Memᴰ·append-cases ps n) [
+      | inl a ↦ from-not (before t (take w y)) (λ k. both-ways (before t (take w x)) (f t a q) (transitive t (take w y) (take w x) k e))
+      | inr a ↦ g t a q
+    ]),
+    m,
+    v,
+  )
+  both-some ps qs x y (i, r, f, l, z) (j, s, g, m, v) false e = (
+    Memᴰ·append-left qs i,
+    r,
+    (λ t n q. elim (List·Memᴰ·append-cases ps n) [
+      | inl a ↦ f t a q
+      | inr a ↦ from-not (before t (take w x)) (λ k. elim (compared t (take w y)) [
+        | inl o ↦ both-ways (before t (take w y)) (g t a q) o
+        | inr o ↦ elim o [
+          | inl p ↦ both-ways (before (take w y) (take w x)) e (subst (λ u. before u (take w x) ≡ true) p k)
+          | inr p ↦ both-ways (before (take w y) (take w x)) e (transitive (take w y) t (take w x) p k)
+        ]
+      ])
+    ]),
+    l,
+    z,
+  )
 
   pub least-append : (ps qs : List (List ℕ)) (a b : Option (List ℕ)) → Least ps start at w a → Least qs start at w b → Least (ps ++ qs) start at w (lesser w a b)
   least-append ps qs None None f g = λ t n. elim (List·Memᴰ·append-cases ps n) [ inl a ↦ f t a | inr a ↦ g t a ]

@@ -27,7 +27,7 @@ whole w a small eight zeros =
     let short : length (take w a) ≡ w = length-take-le w a (omega arith) in
     let left : length (drop w a) ≡ 8 - length (take w a) = length-drop w a ∙ omega arith in
     let same : replicate (8 - length (take w a)) 0 ≡ drop w a = ext-getD 0 (replicate (8 - length (take w a)) 0) (drop w a) (length-replicate _ 0 ∙ sym left)
-        (λ i l. getD-replicate (8 - length (take w a)) i 0 0 (omega (arith, length-replicate {A = ℕ} (8 - length (take w a)) 0)) ∙ sym (getD-drop w a i 0 ∙ zeros (w + i) (omega arith))) in
+    (λ i l. getD-replicate (8 - length (take w a)) i 0 0 (omega (arith, length-replicate {A = ℕ} (8 - length (take w a)) 0)) ∙ sym (getD-drop w a i 0 ∙ zeros (w + i) (omega arith))) in
     ap (λ r. take w a ++ r) same ∙ take-append-drop w a
 
 -- columns are before a padded line exactly when their front is before the line
@@ -55,8 +55,10 @@ module _ (cs : List (List ℕ)) (w : ℕ) (small : w ≤ 8) (long : Long w cs) (
       (has (map padded cs) a ≡ true) × (after a ≡ true) × ((columns : List ℕ) → has (map padded cs) columns ≡ true → after columns ≡ true → before columns a ≡ false)
   found-some a (i, r, f, eight, zeros) =
       let is : padded (take w a) ≡ a = whole w a small eight zeros in
-      let wide : length (take w a) ≡ w = long (take w a) i in
-      (subst (λ c. has (map padded cs) c ≡ true) is (line-has (Memᴰ·map padded i)), subst (λ c. after c ≡ true) is (agree (take w a) wide ∙ r),
-       of-each (λ columns. after columns ≡ true → before columns a ≡ false)
-       (λ t j h. ap (before (padded t)) (sym is) ∙ before-padded w (padded t) (take w a) small (padded-long t (omega (arith, long t j))) wide ∙
-         ap (λ u. before u (take w a)) (take-at t (replicate (8 - length t) 0) w (long t j)) ∙ f t j (sym (agree t (long t j)) ∙ h)))
+      let wide : length (take w a) ≡ w = long (take w a) i in (
+        subst (λ c. has (map padded cs) c ≡ true) is (line-has (Memᴰ·map padded i)),
+        subst (λ c. after c ≡ true) is (agree (take w a) wide ∙ r),
+        of-each (λ columns. after columns ≡ true → before columns a ≡ false)
+            (λ t j h. ap (before (padded t)) (sym is) ∙ before-padded w (padded t) (take w a) small (padded-long t (omega (arith, long t j))) wide ∙
+            ap (λ u. before u (take w a)) (take-at t (replicate (8 - length t) 0) w (long t j)) ∙ f t j (sym (agree t (long t j)) ∙ h)),
+      )

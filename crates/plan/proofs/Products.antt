@@ -87,10 +87,13 @@ module _ (ps qs : List (List ℕ)) (wl wr : ℕ) (long : (u : List ℕ) → List
         let lx : length A ≡ length X = al ∙ sym (long X (left .0)) in
         let least : (t : List ℕ) → List·Memᴰ t (linesBy Product ps qs) → reaches start (A ++ B) t ≡ true → before t (X ++ Y) ≡ false = by-parts (λ t. before t (X ++ Y) ≡ false)
         (λ u v i j lu q. not-less u v X Y (sym lu ∙ lx) (left .2 u i (on-left A B start u v lu q))
-          (λ s. right .2 v j (reach-right A B start X v lx (subst (λ c. reaches start (A ++ B) (c ++ v) ≡ true) s q) (before A X) refl))) in
-        (subst (λ t. List·Memᴰ t (linesBy Product ps qs)) (sym e) (pairs-put (left .0) (right .0)),
-         subst (λ t. reaches start (A ++ B) t ≡ true) (sym e) (reach-both A B start X Y lx (left .1) (before A X) refl (right .1)),
-         (λ t m q. subst (λ c. before t c ≡ false) (sym e) (least t m q)), l, p)
+        (λ s. right .2 v j (reach-right A B start X v lx (subst (λ c. reaches start (A ++ B) (c ++ v) ≡ true) s q) (before A X) refl))) in (
+          subst (λ t. List·Memᴰ t (linesBy Product ps qs)) (sym e) (pairs-put (left .0) (right .0)),
+          subst (λ t. reaches start (A ++ B) t ≡ true) (sym e) (reach-both A B start X Y lx (left .1) (before A X) refl (right .1)),
+          (λ t m q. subst (λ c. before t c ≡ false) (sym e) (least t m q)),
+          l,
+          p,
+        )
 
     module _ (right : Least qs (onRight start (before A (take wl x))) B wr None) where
       -- a reached line has a left part past x
@@ -99,7 +102,7 @@ module _ (ps qs : List (List ℕ)) (wl wr : ℕ) (long : (u : List ℕ) → List
         | inl o ↦ o
         | inr o ↦ absurd (elim o [
           | inl e ↦ both-ways (reaches (onRight start (before A (take wl x))) B v) (right v j)
-                  (reach-right A B start (take wl x) v (al ∙ sym (long (take wl x) (left .0))) (subst (λ c. reaches start (A ++ B) (c ++ v) ≡ true) (sym e) q) (before A (take wl x)) refl)
+              (reach-right A B start (take wl x) v (al ∙ sym (long (take wl x) (left .0))) (subst (λ c. reaches start (A ++ B) (c ++ v) ≡ true) (sym e) q) (before A (take wl x)) refl)
           | inr k ↦ both-ways (before u (take wl x)) (left .2 u i (on-left A B start u v l q)) k
         ])
       ]
@@ -113,8 +116,10 @@ module _ (ps qs : List (List ℕ)) (wl wr : ℕ) (long : (u : List ℕ) → List
           let Y : List ℕ = take wr y in
           let lx : length A ≡ length X = al ∙ sym (long X (next .0)) in
           let least : (t : List ℕ) → List·Memᴰ t (linesBy Product ps qs) → reaches start (A ++ B) t ≡ true → before t (X ++ Y) ≡ false = by-parts (λ t. before t (X ++ Y) ≡ false)
-          (λ u v i j lu q. not-less u v X Y (sym lu ∙ lx) (next .2 u i (left-past u v i j lu q)) (λ s. first .2 v j refl)) in
-          (subst (λ t. List·Memᴰ t (linesBy Product ps qs)) (sym e) (pairs-put (next .0) (first .0)),
-           subst (λ t. reaches start (A ++ B) t ≡ true) (sym e) (reach-next A B start (take wl x) X Y lx (left .1) (next .1)),
-           (λ t m q. subst (λ s. before t s ≡ false) (sym e) (least t m q)), l, p)
-
+          (λ u v i j lu q. not-less u v X Y (sym lu ∙ lx) (next .2 u i (left-past u v i j lu q)) (λ s. first .2 v j refl)) in (
+            subst (λ t. List·Memᴰ t (linesBy Product ps qs)) (sym e) (pairs-put (next .0) (first .0)),
+            subst (λ t. reaches start (A ++ B) t ≡ true) (sym e) (reach-next A B start (take wl x) X Y lx (left .1) (next .1)),
+            (λ t m q. subst (λ s. before t s ≡ false) (sym e) (least t m q)),
+            l,
+            p,
+          )

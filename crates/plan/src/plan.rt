@@ -10,7 +10,6 @@ use crate::node::Node;
 
 pub mod fill;
 pub mod naming;
-pub mod stream;
 pub mod truth;
 
 #[derive(Clone, Copy)]

@@ -53,7 +53,11 @@ pub fn lesser_of(a: Option<[u32; 8]>, b: Option<[u32; 8]>, width: usize) -> Opti
     match (a, b) {
         (None, other) => other,
         (Some(x), None) => Some(x),
-        (Some(x), Some(y)) => if is_before(&y, &x, width) { Some(y) } else { Some(x) },
+        (Some(x), Some(y)) => if is_before(&y, &x, width) {
+            Some(y)
+        } else {
+            Some(x)
+        },
     }
 }
 
@@ -80,7 +84,14 @@ fn opened_line(fields: [Field; 4], columns: [u32; 4]) -> Option<[u32; 8]>
 }
 
 // The line of one row at a leaf, if it has one and the search takes it.
-pub fn row_line(relation: u16, fields: [Field; 4], row: &Row, at: &[u32; 8], start: Start, width: usize) -> Option<[u32; 8]>
+pub fn row_line(
+    relation: u16,
+    fields: [Field; 4],
+    row: &Row,
+    at: &[u32; 8],
+    start: Start,
+    width: usize,
+) -> Option<[u32; 8]>
     requires { ⌜ width ≤ 8 ⌝ ∗ ⌜ width ≡ opens fields ⌝ }
     ensures { λ r. ⌜ Least (leafLines relation fields (now (row .entry) ∷ [])) start (take width (now (at .entry))) width r ⌝ }
 {

@@ -19,7 +19,8 @@ loop-i-again c =
     let inv = c .loop-i .inv in
     let room : n < length all = omega arith in
     let l : i < length y = omega arith in
-    let step : c .args .cut + (i + 1) ≡ n + 1 = omega arith in
-    (ap (λ m. take m (set all n v)) step ∙ take-more-set all n v room ∙ ap (λ z. z ++ (v ∷ [])) (inv .0) ∙ append-assoc (take (c .args .cut) x) (take i y) (v ∷ []) ∙ ap (λ z. take (c .args .cut) x ++ z) (sym (take-more y i 0 l)),
-     length-set all n v ∙ inv .1,
-     (λ k h. let ne : k ≢ n = omega arith in getD-set-other all n k v 0 ne ∙ inv .2 k (omega arith)))
+    let step : c .args .cut + (i + 1) ≡ n + 1 = omega arith in (
+      ap (λ m. take m (set all n v)) step ∙ take-more-set all n v room ∙ ap (λ z. z ++ (v ∷ [])) (inv .0) ∙ append-assoc (take (c .args .cut) x) (take i y) (v ∷ []) ∙ ap (λ z. take (c .args .cut) x ++ z) (sym (take-more y i 0 l)),
+      length-set all n v ∙ inv .1,
+      (λ k h. let ne : k ≢ n = omega arith in getD-set-other all n k v 0 ne ∙ inv .2 k (omega arith)),
+    )

@@ -66,6 +66,9 @@ returns c =
     let (good, count, small, same, eight, zeros) = c .loop-i .inv in
     let fs : drop i fields ≡ [] = drop-all i fields (omega arith) in
     let xs : drop i columns ≡ [] = drop-all i columns (omega arith) in
-    let all : c .loop-i .next ≡ opens fields = omega (arith, ap opens fs) in
-    (sym good ∙ ap₂ matches fs xs,
-     ap (λ n. take n line) (sym all) ∙ sym (append-nil _) ∙ ap (λ z. take (c .loop-i .next) line ++ z) (sym (ap₂ opened fs xs)) ∙ same, eight, subst (λ n. Padded n line) all zeros)
+    let all : c .loop-i .next ≡ opens fields = omega (arith, ap opens fs) in (
+      sym good ∙ ap₂ matches fs xs,
+      ap (λ n. take n line) (sym all) ∙ sym (append-nil _) ∙ ap (λ z. take (c .loop-i .next) line ++ z) (sym (ap₂ opened fs xs)) ∙ same,
+      eight,
+      subst (λ n. Padded n line) all zeros,
+    )

@@ -16,9 +16,10 @@ loop-i-again c =
     let v = getD at (cut + i) 0 in
     let inv = c .loop-i .inv in
     let room : i < length rest = omega arith in
-    let l : i < length (drop cut at) = simp length-drop (omega arith) in
-    (take-more-set rest i v room ∙ ap₂ (λ z u. z ++ (u ∷ [])) (inv .0) (sym (getD-drop cut at i 0)) ∙ sym (take-more (drop cut at) i 0 l),
-     length-set rest i v ∙ inv .1)
+    let l : i < length (drop cut at) = simp length-drop (omega arith) in (
+      take-more-set rest i v room ∙ ap₂ (λ z u. z ++ (u ∷ [])) (inv .0) (sym (getD-drop cut at i 0)) ∙ sym (take-more (drop cut at) i 0 l),
+      length-set rest i v ∙ inv .1,
+    )
 
 pub returns : need.returns
 returns c =

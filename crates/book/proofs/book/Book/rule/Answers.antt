@@ -46,7 +46,7 @@ returns-in-Ok g c =
     let once = g .S·Source .keeps (b .source) (c .pre .ready) .once in
     let number = sym (how-many (b .log)) in
     let says : RuleSays s rules (rulesOf log) rule (Ok (b .log .«rule_count»)) =
-      (number, ap (λ k. ltb k 16) number ∙ room g (need.at·returns-in-Ok g c .Else-number-ge-MOST-RULES), made .0, last, few-listed s once (rulesOf log) (log .conflicts) (added .1)) in
+    (number, ap (λ k. ltb k 16) number ∙ room g (need.at·returns-in-Ok g c .Else-number-ge-MOST-RULES), made .0, last, few-listed s once (rulesOf log) (log .conflicts) (added .1)) in
     record { sound = record { ready = c .pre .ready; exact = added .1 }; source = refl; says = says; law = rule-lives s rules (rulesOf log) rule (Ok (b .log .«rule_count»)) says }
 
 pub returns-in-Err : need.returns-in-Err

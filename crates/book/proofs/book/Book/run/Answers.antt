@@ -22,12 +22,14 @@ loop-call-again g c =
     let told = g .R·Recorder .told in
     let calls = c .args .calls .now in
     let i = c .loop-call .call-index in
-    let more = map-more askedBy calls i _ (c .loop-call-test .taken) in
-    (step .sound, step .anchor ∙ so .1,
+    let more = map-more askedBy calls i _ (c .loop-call-test .taken) in (
+      step .sound,
+      step .anchor ∙ so .1,
       subst (λ (askeds : List Asked). RunSays (told (c .args .recorder .now)) (told (c .record .last .self)) askeds (model (b .source)) (rulesOf (b .log)) (model (c .step-outcome .last .self .source)) (rulesOf (c .step-outcome .last .self .log))) (sym more)
-      (one-more (told (c .args .recorder .now)) (told (c .loop-call .recorder)) (told (c .record .last .self)) (map askedBy (take i calls))
-        (model (b .source)) (model (c .loop-call .self .source)) (model (c .step-outcome .last .self .source)) (rulesOf (b .log)) (rulesOf (c .loop-call .self .log)) (rulesOf (c .step-outcome .last .self .log))
-        _ (toldOf (c .step-outcome .result)) (so .2) (step .law) (c .record .ensures)))
+          (one-more (told (c .args .recorder .now)) (told (c .loop-call .recorder)) (told (c .record .last .self)) (map askedBy (take i calls))
+          (model (b .source)) (model (c .loop-call .self .source)) (model (c .step-outcome .last .self .source)) (rulesOf (b .log)) (rulesOf (c .loop-call .self .log)) (rulesOf (c .step-outcome .last .self .log))
+          _ (toldOf (c .step-outcome .result)) (so .2) (step .law) (c .record .ensures)),
+    )
 
 pub returns : need.returns
 returns g c =
