@@ -2,6 +2,8 @@
 //
 // A line names one row at each leaf of a plan, so whether it is an answer takes one look-up for each leaf, and one pass over
 // the plan's nodes. Before that the plan has to fit the source, and the line the plan.
+#![tactic(auto)]
+
 mod asking;
 mod held;
 mod refusal;

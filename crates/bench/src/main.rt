@@ -2,6 +2,8 @@
 //
 // A book is filled and emptied under one rule, at several numbers of rows, and the least time of many
 // rounds is told, since other work on the machine only adds to it.
+#![tactic(auto)]
+
 use crate::load::Load;
 use crate::trouble::Trouble;
 use std::{env, io};

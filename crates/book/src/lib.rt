@@ -3,6 +3,8 @@
 // The source holds the rows; the book holds the rules and, always exact, the list of the sets of rows
 // that they forbid together. What a book does over whole runs is held to the plain book of
 // specs/Plain.antt: each call says that every lawful life so far goes on with it.
+#![tactic(auto)]
+
 mod book;
 mod call;
 mod entries;

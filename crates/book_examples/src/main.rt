@@ -1,4 +1,6 @@
 // Examples of a book over a table, a line for each thing that they show.
+#![tactic(auto)]
+
 use std::io;
 
 mod counts;

@@ -2,6 +2,8 @@
 //
 // A line is put four questions in order: is it short enough, is its first word known, has each
 // further word a form, are the words in the order and number that the command wants?
+#![tactic(auto)]
+
 mod command;
 mod parsing;
 mod refusal;

@@ -1,4 +1,6 @@
 // The program: lines come in on standard input, and words go out on standard output.
+#![tactic(auto)]
+
 use script::{Counter, Session};
 use std::io;
 use std::io::{BufWriter, Read, Write};

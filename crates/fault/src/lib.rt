@@ -1,4 +1,6 @@
 // What a person is told of a refusal, the same in every layer.
+#![tactic(auto)]
+
 mod layer;
 mod notice;
 

@@ -2,6 +2,8 @@
 //
 // The caller owns the slice and knows how many of its items are in use. Finding an element halves what is left, entering
 // one moves those behind it up by one place, and taking some out is one pass over the list. Nothing is allocated.
+#![tactic(auto)]
+
 mod columns;
 mod element;
 mod entry;

@@ -4,6 +4,8 @@
 // from places. specs/Records.antt says what a record is, and specs/Checks.antt when bytes are a page.
 // The check looks at each record three times and compares a row once with each earlier record, which
 // is 32,640 comparisons at most; a source writes one record for a row that is put or struck.
+#![tactic(auto)]
+
 mod checking;
 mod encoding;
 mod face;

@@ -1,4 +1,6 @@
 // A page in memory: opened as a source, rows put and struck, and what its bytes came to.
+#![tactic(auto)]
+
 mod entering;
 mod showing;
 

@@ -4,6 +4,8 @@
 // lines are the plan's answers. Nothing is projected away, so a line names one row at each leaf, and whether it is an answer
 // depends on these rows alone: `Plan::named` tells them, and `Plan::holds` decides from the truth of each, in one pass over
 // the nodes, with no recursion and no allocation.
+#![tactic(auto)]
+
 mod choice;
 mod laws;
 mod leaf;

@@ -1,4 +1,6 @@
 // Plans by example: what `fill` says of nodes, and which lines are answers.
+#![tactic(auto)]
+
 mod answers;
 mod asked;
 mod nodes;

@@ -4,6 +4,8 @@
 // once, by the ascending places of its rows, with the least rule that they break. It is not made anew when a row or a rule
 // comes: only the choices are gone through that the row or the rule is part of, atom by atom, and a choice is given up at
 // the first row that does not fit. Under a rule of two atoms a row that comes costs two passes over the places.
+#![tactic(auto)]
+
 mod chosen;
 mod conflict;
 pub mod laws;

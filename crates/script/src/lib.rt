@@ -1,4 +1,6 @@
 // The script: lines come in, what they command is done on a book, and words say how that went.
+#![tactic(auto)]
+
 mod counter;
 mod faults;
 mod pending;

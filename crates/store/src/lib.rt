@@ -2,6 +2,8 @@
 //
 // A source has places, and at each place a row or nothing. What every source means is said once,
 // by the trait `Source` over the model in specs/Store.antt; each source is proved against it.
+#![tactic(auto)]
+
 mod arity;
 mod refusal;
 mod row;

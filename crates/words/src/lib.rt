@@ -3,6 +3,8 @@
 //
 // A text may hold any bytes and be of any length. It is read from left to right, a fixed number of times; nothing is
 // copied or allocated, and whatever is handed out borrows the text and knows its place in it.
+#![tactic(auto)]
+
 mod comparisons;
 pub mod halves;
 mod leaves;

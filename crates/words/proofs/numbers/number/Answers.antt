@@ -4,20 +4,20 @@ use Rattle.words.specs.Language.{number_of}
 use Rattle.words.proofs.Digits.{one_more, spoilt, small_enough, too_large}
 use Rattle.words.proofs.numbers.number.Goals as goal
 
-pub returns-then-is-empty : goal.returns-then-is-empty
+pub returns-then-is_empty : goal.returns-then-is_empty
 unfolding number_of
-returns-then-is-empty c = search rules
+returns-then-is_empty c = search rules
 
-pub returns-then-not-is-ascii-digit : goal.returns-then-not-is-ascii-digit
-returns-then-not-is-ascii-digit c = spoilt _ _ _ c.loop-byte.invariant c.loop-byte-test.true (sym c.if-not-is-ascii-digit.ensures.value)
+pub returns-then-not-is_ascii_digit : goal.returns-then-not-is_ascii_digit
+returns-then-not-is_ascii_digit c = spoilt _ _ _ c.loop-byte.invariant c.loop-byte-test.true (sym c.if-not-is_ascii_digit.ensures.value)
 
 pub loop-byte-preserved : goal.loop-byte-preserved
-loop-byte-preserved c = one_more _ _ _ c.loop-byte.invariant c.loop-byte-test.true (sym c.if-not-is-ascii-digit.ensures.value)
+loop-byte-preserved c = one_more _ _ _ c.loop-byte.invariant c.loop-byte-test.true (sym c.if-not-is_ascii_digit.ensures.value)
 
 pub returns-then-value-lt-LIMIT : goal.returns-then-value-lt-LIMIT
 returns-then-value-lt-LIMIT c =
-    small_enough _ _ _ c.loop-byte.invariant c.loop-byte-test.false c.if-is-empty.ensures c.if-text-gt-MOST-DIGITS.false c.if-value-lt-LIMIT.true
+    small_enough _ _ _ c.loop-byte.invariant c.loop-byte-test.false c.if-is_empty.ensures c.if-text-gt-MOST_DIGITS.false c.if-value-lt-LIMIT.true
 
 pub returns-else-value-lt-LIMIT : goal.returns-else-value-lt-LIMIT
 returns-else-value-lt-LIMIT c =
-    too_large _ _ _ c.loop-byte.invariant c.loop-byte-test.false c.if-is-empty.ensures c.if-text-gt-MOST-DIGITS.false c.if-value-lt-LIMIT.false
+    too_large _ _ _ c.loop-byte.invariant c.loop-byte-test.false c.if-is_empty.ensures c.if-text-gt-MOST_DIGITS.false c.if-value-lt-LIMIT.false

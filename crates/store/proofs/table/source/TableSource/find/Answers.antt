@@ -5,7 +5,7 @@ use Rattle.store.specs.Store.{is_row}
 use Rattle.store.proofs.Alike.{same_row_is}
 use Rattle.store.proofs.Scans.{any_past}
 use Rattle.store.proofs.table.source.TableSource.find.Goals as goal
-use Rattle.store.proofs.table.source.TableSource.find.Goals.{in-Some+else-same, in-default}
+use Rattle.store.proofs.table.source.TableSource.find.Goals.{in-Some+else-same, in_default}
 
 pub returns-then-same : goal.returns-then-same
 returns-then-same c = (omega arith, c.in-Some.is ∙ ap Some (same_row_is c.in-Some.held c.args.row.now (sym c.if-same.ensures)))
@@ -14,7 +14,7 @@ returns-then-same c = (omega arith, c.in-Some.is ∙ ap Some (same_row_is c.in-S
 other : (c : goal.Joined-cell) → is_row c.args.row.now (get_or c.args.self.now.cells c.loop-place.place None) ≡ false
 other c = elim c.match-cell.branch [
   | in-Some+else-same w ↦ ap (is_row c.args.row.now) w.in-Some.is ∙ sym w.if-same.ensures
-  | in-default w ↦ ap (is_row c.args.row.now) w.in-default.is
+  | in_default w ↦ ap (is_row c.args.row.now) w.in_default.is
 ]
 
 pub loop-place-preserved : goal.loop-place-preserved
