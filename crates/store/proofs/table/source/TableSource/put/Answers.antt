@@ -29,7 +29,7 @@ invariant_of-self c =
     let row = c.args.row.now in
     let so = (goal.at.invariant_of-self c).Else-not-zero_from in
     let in_cells = c.in-Some-vacant.ensures.0 in
-    (length-set t.cells _ _ ∙ t.sized, (fit_put t.cells _ in_cells t.arities row (declared so) (ends so) t.fit, (once_put t.cells _ in_cells row c.in_default.ensures t.once, tt)))
+    record { sized = length-set t.cells _ _ ∙ t.sized; fit = fit_put t.cells _ in_cells t.arities row (declared so) (ends so) t.fit; once = once_put t.cells _ in_cells row c.in_default.ensures t.once }
 
 pub returns : goal.returns
 returns c =
