@@ -1,8 +1,8 @@
 -- Which question of put refuses a row, from the answers to all of them.
-use Rattle.std.proofs.Common.{◌≡◌, true, false, Some, None, refl}
+use Rattle.std.proofs.Common.{◌≡◌, true, false, Some, None}
 use Rattle.store.specs.Store.{Store, declares, ends_in_zeros, holds, has_empty, put_refusal}
 use Rattle.store.specs.declared.row.Row.{Row}
-use Rattle.store.specs.declared.refusal.Refusal.TheVariants.{Undeclared, Unfit, AlreadyHeld, NoEmptyPlace, NotHeld}
+use Rattle.store.specs.declared.refusal.Refusal.TheVariants.{Undeclared, Unfit, AlreadyHeld, NoEmptyPlace}
 
 module _ (s : Store) (row : Row) where
   pub undeclared : declares s row ≡ false → put_refusal s row ≡ Some Undeclared

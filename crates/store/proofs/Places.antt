@@ -1,14 +1,14 @@
 -- Places before and after a row is put or struck.
-use Rattle.std.proofs.Common.{◌≡◌, ℕ, suc, ◌+◌, ◌<◌, ◌≤◌, Bool, true, false, ◌&&◌, ltb, ◌≢◌, ◌⊎◌, List, [], ◌∷◌, length, get_or, set, replicate, is_some, Some, None, Option, sym, refl, ap, ◌∙◌, subst, ⊎_elim, arith, get_or-set_other, get_or-set_same}
+use Rattle.std.proofs.Common.{◌≡◌, ℕ, ◌<◌, ◌≤◌, true, false, ◌&&◌, ltb, ◌≢◌, ◌⊎◌, List, length, get_or, set, replicate, is_some, Some, None, Option, sym, refl, ap, ◌∙◌, subst, ⊎_elim, arith, get_or-set_other, get_or-set_same}
 use Rattle.std.proofs.lemmas.List.{get_or_past, get_or-replicate, length-replicate}
 use Rattle.std.proofs.lemmas.Bool.{both_ways, and_from}
 use Rattle.store.specs.declared.row.Row.{Row}
 use Rattle.store.specs.Lists.{any}
 use Rattle.store.specs.Places.{OnceIn, FitIn}
-use Rattle.store.specs.Rows.{same_row, arity_in, zero_from}
-use Rattle.store.specs.Store.{is_row, is_empty}
+use Rattle.store.specs.Rows.{arity_in, zero_from}
+use Rattle.store.specs.Store.{is_row}
 use Rattle.store.proofs.Scans.{any_here, any_nowhere}
-use Rattle.store.proofs.Alike.{same_row_refl, same_row_is}
+use Rattle.store.proofs.Alike.{same_row_refl}
 
 pub cut : (p n : ℕ) → (p < n) ⊎ (n ≤ p)
 cut p n = grind arith

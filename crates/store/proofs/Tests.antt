@@ -1,7 +1,7 @@
 -- From a test on a list to its elements, and back.
-use Rattle.std.proofs.Common.{◌≡◌, Bool, true, false, not, ◌&&◌, ◌||◌, ◌⊎◌, List, [], ◌∷◌, ◌++◌, sym, refl, ap, ◌∙◌, inl, inr}
+use Rattle.std.proofs.Common.{◌≡◌, Bool, true, false, List, [], ◌∷◌, sym, refl, inl, inr}
 use mathlib.Core.List.{Memᴰ}
-use Rattle.std.proofs.lemmas.Bool.{both_ways, not-true, not-false, and_parts, and_from, or_cases, or_left, or_right, cases_Bool, not_from_true, not_from_false}
+use Rattle.std.proofs.lemmas.Bool.{both_ways, and_parts, and_from, or_cases, or_left, or_right}
 use Rattle.store.specs.Lists.{any, all}
 
 pub from_not : (b : Bool) → (b ≡ true → ⊥) → b ≡ false

@@ -1,10 +1,10 @@
 -- That a table's own facts are what every source keeps; a source hands this on with its meaning.
-use Rattle.std.specs.Prelude.{◌≡◌, ℕ, ◌≤◌, Bool, true, false, cond, ◌&&◌, List, length, Option, ◌≢◌, nat_le, nat_lt, slice_index, refl}
+use Rattle.std.specs.Prelude.{◌≡◌, ℕ, ◌≤◌, Bool, true, false, cond, List, length, Option, ◌≢◌, nat_le, nat_lt, slice_index, refl}
 use Rattle.std.proofs.Common.{arith}
 use Rattle.std.proofs.lemmas.Bool.{and_parts, leb-true, ltb-true}
 use Rattle.store.specs.Rows.{arity_in}
 use Rattle.store.specs.Places.{OnceIn, FitIn}
-use Rattle.store.specs.Store.{Store, Kept}
+use Rattle.store.specs.Store.{Kept}
 use Rattle.store.specs.Tables.{table_model}
 use Rattle.store.specs.declared.row.Row.{Row}
 use Rattle.store.specs.declared.table.Table.{Table}

@@ -1,4 +1,4 @@
-use Rattle.std.proofs.Common.{◌≡◌, ℕ, get_or, sym, arith}
+use Rattle.std.proofs.Common.{◌≡◌, get_or, sym, arith}
 use Rattle.std.proofs.lemmas.List.{get_or_past}
 use Rattle.store.proofs.Arities.{arity_far, arity_read, arity_high}
 use Rattle.store.proofs.arity.arity_in.Goals as goal

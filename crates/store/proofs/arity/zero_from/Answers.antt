@@ -1,4 +1,4 @@
-use Rattle.std.proofs.Common.{Bool, eqb, sym, ◌∙◌, arith}
+use Rattle.std.proofs.Common.{eqb, sym, ◌∙◌, arith}
 use Rattle.std.proofs.lemmas.List.{at_drop_all}
 use Rattle.std.proofs.lemmas.Bool.{eq-eqb, ne_eqb}
 use Rattle.store.specs.Lists.{all}

@@ -1,4 +1,4 @@
-use Rattle.std.proofs.Common.{◌≡◌, true, Some, None, sym, refl, ap, ◌∙◌, arith, length-set}
+use Rattle.std.proofs.Common.{◌≡◌, true, None, sym, refl, ap, ◌∙◌, arith, length-set}
 use Rattle.std.proofs.lemmas.Bool.{lt-ltb}
 use Rattle.store.specs.Rows.{zero_from}
 use Rattle.store.specs.Store.{declares, ends_in_zeros, is_empty}

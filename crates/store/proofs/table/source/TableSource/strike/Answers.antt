@@ -1,5 +1,4 @@
 use Rattle.std.proofs.Common.{refl}
-use Rattle.store.specs.Tables.{table_model}
 use Rattle.store.proofs.Places.{held_at}
 use Rattle.store.proofs.table.source.TableSource.strike.Goals as goal
 
