@@ -3,7 +3,7 @@ use Rattle.std.proofs.lemmas.List.{at_drop_all}
 use Rattle.plan.specs.Leaves.{opens}
 use Rattle.plan.proofs.Fields.{opens_left}
 use Rattle.plan.proofs.leaf.open_count.Goals as goal
-use Rattle.plan.proofs.leaf.open_count.Goals.{in-Open, in-default}
+use Rattle.plan.proofs.leaf.open_count.Goals.{in-Open, in_default}
 
 pub loop-field-preserved : goal.loop-field-preserved
 loop-field-preserved c =
@@ -12,7 +12,7 @@ loop-field-preserved c =
     let l : i < length fields = omega arith in
     elim c.match-field.branch [
       | in-Open w ↦ (omega (arith, w.open-is, opens_left fields i _ _ l w.in-Open.is), omega (arith, w.open-is))
-      | in-default w ↦ (omega (arith, w.open-is, opens_left fields i _ _ l w.in-default.is), omega (arith, w.open-is))
+      | in_default w ↦ (omega (arith, w.open-is, opens_left fields i _ _ l w.in_default.is), omega (arith, w.open-is))
     ]
 
 pub returns : goal.returns

@@ -12,8 +12,8 @@ loop-k-preserved-in-Choice c =
     let up : c.loop-k.k ≡ k + 1 = omega arith in
     (omega arith, choice_step nodes c.requires.early c.requires.once ws c.requires.wide c.requires.few k (omega arith) os (subst (λ n. Inv nodes ws n os) up c.loop-k.invariant.1) _ _ _ _ c.in-Choice.is)
 
-pub right-start-requires : goal.right-start-requires
-right-start-requires c =
+pub right_start-requires : goal.right_start-requires
+right_start-requires c =
     let nodes = c.args.nodes.now in
     let ws = c.args.widths.now in
     let os = c.loop-k.offsets in
@@ -29,7 +29,7 @@ loop-k-preserved c =
     let k = c.loop-k.k - 1 in
     let up : c.loop-k.k ≡ k + 1 = omega arith in
     let step = pair_step nodes c.requires.early c.requires.once ws c.requires.wide c.requires.few k (omega arith) os (subst (λ n. Inv nodes ws n os) up c.loop-k.invariant.1) _ _ _ c.in-Pair.is in
-    (omega arith, subst (λ v. Inv nodes ws k (set (set os c.in-Pair.left (get_or os k 0)) c.in-Pair.right v)) (sym c.right-start.ensures) step.1)
+    (omega arith, subst (λ v. Inv nodes ws k (set (set os c.in-Pair.left (get_or os k 0)) c.in-Pair.right v)) (sym c.right_start.ensures) step.1)
 
 pub returns : goal.returns
 returns c =

@@ -16,9 +16,9 @@ returns-in-Less c =
     let all : w - 0 ≡ w = omega arith in
     ap is_lt ((lexical nat_cmp_total).says (take (w - 0) c.args.a.now) (take (w - 0) c.args.b.now) Less c.in-Less.ensures) ∙ ap (λ n. before (take n c.args.a.now) (take n c.args.b.now)) all
 
-pub returns-in-default : goal.returns-in-default
-returns-in-default c =
+pub returns-in_default : goal.returns-in_default
+returns-in_default c =
     let w = c.args.width in
     let all : w - 0 ≡ w = omega arith in
-    sym (not_less c.cmp.result c.in-default.not-Less) ∙ ap is_lt ((lexical nat_cmp_total).says (take (w - 0) c.args.a.now) (take (w - 0) c.args.b.now) c.cmp.result c.cmp.ensures) ∙
+    sym (not_less c.cmp.result c.in_default.not-Less) ∙ ap is_lt ((lexical nat_cmp_total).says (take (w - 0) c.args.a.now) (take (w - 0) c.args.b.now) c.cmp.result c.cmp.ensures) ∙
     ap (λ n. before (take n c.args.a.now) (take n c.args.b.now)) all

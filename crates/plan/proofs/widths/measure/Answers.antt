@@ -17,8 +17,8 @@ returns-then-width-gt8 c =
     let node = get_or nodes k blank in
     let l : k < length nodes = omega arith in
     let bad : (sides_fit ws node && leb (width_of ws node) 8) ≡ false = elim c.then-width-gt8.branch [
-      | then-width-gt8-via-then-width-gt8 w ↦ and_right (sides_fit ws node) (leb (width_of ws node) 8) (lt-leb (width_of ws node) 8 (omega (arith, c.width-of-width.ensures, w.if-width-gt8.true)))
-      | then-width-gt8-via-else-width-gt8+then-not-sides-fit w ↦ and_left (sides_fit ws node) (leb (width_of ws node) 8) (sym w.if-not-sides-fit.ensures)
+      | then-width-gt8-via-then-width-gt8 w ↦ and_right (sides_fit ws node) (leb (width_of ws node) 8) (lt-leb (width_of ws node) 8 (omega (arith, c.width_of-width.ensures, w.if-width-gt8.true)))
+      | then-width-gt8-via-else-width-gt8+then-not-sides-fit w ↦ and_left (sides_fit ws node) (leb (width_of ws node) 8) (sym w.if-not-sides_fit.ensures)
     ] in
     spots_at (unfit_at nodes) (length nodes) k l (sym (unfit_by nodes c.requires.early k l ws (λ j i. (c.loop-k.invariant.0 j i).1)) ∙ ap not bad) (λ j i. (c.loop-k.invariant.0 j i).0)
 
@@ -27,14 +27,14 @@ loop-k-preserved c =
     let nodes = c.args.nodes.now in
     let k = c.loop-k.k in
     let ws = c.loop-k.widths in
-    let w = c.width-of-width.result in
+    let w = c.width_of-width.result in
     let node = get_or nodes k blank in
     let (done, narrow, long) = c.loop-k.invariant in
     let l : k < length nodes = omega arith in
     let room : k < length ws = omega arith in
     let small : w ≤ 8 = omega arith in
-    let is = c.width-of-width.ensures in
-    let fits = and_from (sides_fit ws node) (leb (width_of ws node) 8) (sym c.if-not-sides-fit.ensures) (le-leb (width_of ws node) 8 (omega arith)) in (
+    let is = c.width_of-width.ensures in
+    let fits = and_from (sides_fit ws node) (leb (width_of ws node) 8) (sym c.if-not-sides_fit.ensures) (le-leb (width_of ws node) 8 (omega arith)) in (
       one_more ws k w 0 room (λ j v. (unfit_at nodes j ≡ false) × (v ≡ width_at nodes j) × (v ≤ 8)) done
           (sym (unfit_by nodes c.requires.early k l ws (λ j i. (done j i).1)) ∙ ap not fits, is ∙ width_by nodes c.requires.early k l ws (λ j i. (done j i).1), small),
       every ws k w 0 room (λ v. v ≤ 8) narrow small,

@@ -14,7 +14,7 @@ use Rattle.plan.proofs.PlanLeaves.{leaf_number}
 use Rattle.plan.proofs.Standing.{NoLeaf, count_leaf, count_other}
 use Rattle.plan.proofs.Writes.{one_more}
 use Rattle.plan.proofs.plan.Plan.holds.Goals as goal
-use Rattle.plan.proofs.plan.Plan.holds.Goals.{in-Leaf, in-default}
+use Rattle.plan.proofs.plan.Plan.holds.Goals.{in-Leaf, in_default}
 
 pub bounds-truth-leaf : goal.bounds-truth-leaf
 bounds-truth-leaf c =
@@ -22,8 +22,8 @@ bounds-truth-leaf c =
     let (few, _) = leaf_number plan c.loop-k.k c.loop-k-test.true _ _ _ c.in-Leaf.is in
     omega (arith, plan.six)
 
-pub overflow-add-leaf : goal.overflow-add-leaf
-overflow-add-leaf c =
+pub overflow_add-leaf : goal.overflow_add-leaf
+overflow_add-leaf c =
     let plan = c.args.self.now in
     let (few, _) = leaf_number plan c.loop-k.k c.loop-k-test.true _ _ _ c.in-Leaf.is in
     omega (arith, plan.six)
@@ -51,12 +51,12 @@ loop-k-preserved c =
             subst Says (sym w.truths-is) (one_more bs k _ false room (λ j b. b ≡ get_or (truths plan columns truth) j false) same
                 (ap (λ n. get_or truth n false) leaf ∙ sym (ap (truth_of own (part_at plan columns k) bs) w.in-Leaf.is) ∙ here)),
           )
-      | in-default w ↦
-          let other = subst NoLeaf (sym (node_in plan k within)) w.in-default.not-Leaf in (
+      | in_default w ↦
+          let other = subst NoLeaf (sym (node_in plan k within)) w.in_default.not-Leaf in (
             omega (arith, w.leaf-is, count_other nodes k l other),
             ap length w.truths-is ∙ length-set bs k _ ∙ long,
             subst Says (sym w.truths-is) (one_more bs k _ false room (λ j b. b ≡ get_or (truths plan columns truth) j false) same
-                (w.truth-at.ensures ∙ own_idle own (part_at plan columns k) bs (get_or plan.nodes k blank) w.in-default.not-Leaf ∙ here)),
+                (w.truth_at.ensures ∙ own_idle own (part_at plan columns k) bs (get_or plan.nodes k blank) w.in_default.not-Leaf ∙ here)),
           )
     ]
 

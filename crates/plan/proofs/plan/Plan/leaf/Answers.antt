@@ -26,13 +26,13 @@ returns-in-Leaf c =
     let leaves = leaves_of (nodes_of plan) in
     let p = get_or plan.leaves.places i 0 in
     let (place, leaf) = leaf_at plan i (leaf_of 0 blank) c.if-number-self.false in
-    let built : record { node = p; relation = c.in-Leaf.relation; arity = c.in-Leaf.arity; fields = c.fields-of.result } ≡ leaf_of p (get_or plan.nodes p blank) =
-    (λ j. record { node = p; relation = c.in-Leaf.relation; arity = c.in-Leaf.arity; fields = c.fields-of.ensures j }) ∙ ap (leaf_of p) (sym c.in-Leaf.is) in
+    let built : record { node = p; relation = c.in-Leaf.relation; arity = c.in-Leaf.arity; fields = c.fields_of.result } ≡ leaf_of p (get_or plan.nodes p blank) =
+    (λ j. record { node = p; relation = c.in-Leaf.relation; arity = c.in-Leaf.arity; fields = c.fields_of.ensures j }) ∙ ap (leaf_of p) (sym c.in-Leaf.is) in
     ap Some (built ∙ ap (λ k. leaf_of k (get_or plan.nodes k blank)) place ∙ sym leaf.is) ∙ sym (slice_get-get_or leaves i (leaf_of 0 blank) (omega (arith, leaves_long plan)))
 
-pub returns-in-default : goal.returns-in-default
-returns-in-default c =
+pub returns-in_default : goal.returns-in_default
+returns-in_default c =
     let plan = c.args.self.now in
     let (place, leaf) = leaf_at plan c.args.number (leaf_of 0 blank) c.if-number-self.false in
-    let none = no_leaf_count (get_or plan.nodes (get_or plan.leaves.places c.args.number 0) blank) c.in-default.not-Leaf in
+    let none = no_leaf_count (get_or plan.nodes (get_or plan.leaves.places c.args.number 0) blank) c.in_default.not-Leaf in
     absurd (omega (arith, leaf.one, sym (ap (λ k. leaf_count (get_or plan.nodes k blank)) place) ∙ none))

@@ -7,8 +7,8 @@ use Rattle.plan.proofs.plan.Plan.truth_at.Goals as goal
 pub bounds-truths-node : goal.bounds-truths-node
 bounds-truths-node c = let plan = c.args.self.now in omega (arith, (choice_in plan c.args.k c.requires _ _ _ _ c.in-Choice.is).0)
 
-pub is-chosen-requires : goal.is-chosen-requires
-is-chosen-requires c =
+pub is_chosen-requires : goal.is_chosen-requires
+is_chosen-requires c =
     let plan = c.args.self.now in
     let (l, same, both) = choice_in plan c.args.k c.requires _ _ _ _ c.in-Choice.is in
     let width = get_or plan.widths c.in-Choice.node 0 in

@@ -8,28 +8,28 @@ use Rattle.plan.proofs.plan.fill.plan_of.Goals as goal
 use Rattle.plan.proofs.plan.fill.plan_of.Goals.{In-Ok}
 
 early : (c : In-Ok) → Earlier c.args.nodes.now
-early c = let nodes = c.args.nodes.now in before_first (late_at nodes) (length nodes) (length nodes) c.in-default.ensures
+early c = let nodes = c.args.nodes.now in before_first (late_at nodes) (length nodes) (length nodes) c.in_default.ensures
 
 pub measure-requires : goal.measure-requires
 measure-requires c = record { few = omega arith; early = early c }
 
-pub offsets-of-requires : goal.offsets-of-requires
-offsets-of-requires c =
+pub offsets_of-requires : goal.offsets_of-requires
+offsets_of-requires c =
     let nodes = c.args.nodes.now in
     record {
       few = omega arith;
-      early = early (goal.at.offsets-of-requires c).In-Ok;
-      once = before_first (stray_at nodes) (length nodes - 1) (length nodes - 1) c.in-default-first-stray.ensures;
+      early = early (goal.at.offsets_of-requires c).In-Ok;
+      once = before_first (stray_at nodes) (length nodes - 1) (length nodes - 1) c.in_default-first_stray.ensures;
       wide = c.in-Ok-measure.ensures.0;
     }
 
-pub invariant-of-result : goal.invariant-of-result
-invariant-of-result c =
+pub invariant_of-result : goal.invariant_of-result
+invariant_of-result c =
     let nodes = c.args.nodes.now in
     let same = sym c.copied.ensures.0 in
     let widths = c.in-Ok-measure.widths in
     let leaves = c.in-Ok.ensures in (
-      (c.copied.ensures.1, c.in-Ok-measure.ensures.1, c.offsets-of.ensures.long, leaves.long),
+      (c.copied.ensures.1, c.in-Ok-measure.ensures.1, c.offsets_of.ensures.long, leaves.long),
       (
         omega arith,
         (
@@ -37,13 +37,13 @@ invariant-of-result c =
           (
             leaves.six,
             (
-              subst Earlier same (early (goal.at.invariant-of-result c).In-Ok),
+              subst Earlier same (early (goal.at.invariant_of-result c).In-Ok),
               (
                 subst (λ ns. Measured ns (length nodes) widths) same c.in-Ok-measure.ensures.0,
                 (
-                  subst (λ ns. Offsets ns widths c.offsets-of.result) same c.offsets-of.ensures.starts,
+                  subst (λ ns. Offsets ns widths c.offsets_of.result) same c.offsets_of.ensures.starts,
                   (
-                    c.offsets-of.ensures.room,
+                    c.offsets_of.ensures.room,
                     (leaves.stand ∙ ap (λ ns. places_of (leaves_of ns)) same, tt),
                   ),
                 ),
@@ -57,7 +57,7 @@ invariant-of-result c =
 pub returns : goal.returns
 returns c =
     let nodes = c.args.nodes.now in (
-      granted nodes (omega arith) (omega arith) c.in-default.ensures c.in-default-first-stray.ensures c.in-Ok.ensures.none
+      granted nodes (omega arith) (omega arith) c.in_default.ensures c.in_default-first_stray.ensures c.in-Ok.ensures.none
           (first_none (unfit_at nodes) (length nodes) (λ j h. (c.in-Ok-measure.ensures.0 j h).0)),
       c.copied.ensures.0,
     )
