@@ -1,20 +1,18 @@
 -- Whether a line is an answer is the plan's truth at the rows that it names.
-use Rattle.std.proofs.Common.{◌≡◌, ℕ, zero, suc, ◌+◌, ◌-◌, ◌<◌, ◌≤◌, Bool, true, false, ◌&&◌, eqb, ◌⊎◌, List, [], ◌++◌, map, length, get_or, take, drop, filter, sym, refl, ap, ◌∙◌, subst, ap₂, inl, inr, arith, length-append, get_or-take}
+use Rattle.std.proofs.Common.{◌≡◌, ℕ, zero, suc, ◌+◌, ◌-◌, ◌<◌, Bool, true, false, ◌&&◌, eqb, List, [], length, get_or, take, drop, filter, sym, refl, ap, ◌∙◌, subst, ap₂, inl, inr, arith, length-append, get_or-take}
 use mathlib.Core.List.Memᴰ
-use mathlib.Core.List.{Memᴰ}
 use Rattle.std.proofs.lemmas.List.{get_or-map}
 use Rattle.std.proofs.lemmas.Bool.{leb-false, and_parts, eqb-true}
 use Rattle.store.specs.Rows.{zero_from}
 use Rattle.store.specs.declared.row.Row.{Row}
-use Rattle.plan.specs.Answers.{has, among, chosen, width_by, linesBy, lines_of, linesAt, width_at, planWidth, padded, isAnswer}
+use Rattle.plan.specs.Answers.{has, among, chosen, width_by, linesBy, lines_of, linesAt, planWidth}
 use Rattle.plan.specs.Filling.{alike, leaves_before}
 use Rattle.plan.specs.Gathering.{leaves_of}
 use Rattle.plan.specs.Laws.{ByNames}
-use Rattle.plan.specs.Leaves.{fields_of, opens, named}
+use Rattle.plan.specs.Leaves.{fields_of, named}
 use Rattle.plan.specs.Nodes.{grown, blank}
-use Rattle.plan.specs.Parts.{right_start}
 use Rattle.plan.specs.Plans.{nodes_of}
-use Rattle.plan.specs.Truths.{part_at, named_rows, combined, truth_of, truths, line_fits, plan_truth, Tells}
+use Rattle.plan.specs.Truths.{part_at, named_rows, combined, truth_of, truths, line_fits, Tells}
 use Rattle.plan.specs.declared.leaf.PlanLeaf.{PlanLeaf}
 use Rattle.plan.specs.declared.node.Op.{Op}
 use Rattle.plan.specs.declared.node.Op.TheVariants.{Product, Union, Difference}

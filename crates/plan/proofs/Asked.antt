@@ -1,5 +1,5 @@
 -- When fill refuses nothing.
-use Rattle.std.proofs.Common.{◌≡◌, ℕ, ◌-◌, ◌<◌, ◌≤◌, Bool, true, ◌&&◌, eqb, leb, List, length, Some, None, Option, refl, ap, ◌∙◌}
+use Rattle.std.proofs.Common.{◌≡◌, ℕ, ◌-◌, ◌<◌, ◌≤◌, Bool, true, eqb, leb, List, length, None, Option, ap, ◌∙◌}
 use Rattle.std.proofs.lemmas.Bool.{eq-eqb, le-leb, and_from}
 use Rattle.fault.specs.Questions.{ask}
 use Rattle.plan.specs.Filling.{first, ask_each, right_size, late_at, stray_at, poor_at, unfit_at, fill_refusal}

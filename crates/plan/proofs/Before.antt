@@ -1,6 +1,6 @@
 -- The order of lines.
-use Rattle.std.proofs.Common.{◌≡◌, ℕ, zero, suc, ◌+◌, ◌<◌, ◌≤◌, Bool, true, false, not, ◌&&◌, ◌||◌, ◌⊎◌, List, [], ◌∷◌, ◌++◌, length, replicate, Less, Equal, Greater, sym, refl, ap, ◌∙◌, subst, ap₂, inl, inr, arith}
-use Rattle.std.specs.Cmp.{nat_cmp_total}
+use Rattle.std.proofs.Common.{◌≡◌, ℕ, zero, suc, ◌<◌, true, false, ◌⊎◌, List, [], ◌∷◌, ◌++◌, length, replicate, Less, Equal, Greater, sym, refl, ap, ◌∙◌, ap₂, inl, inr, arith}
+use Rattle.std.specs.Cmp.{nat_cmp_is}
 use Rattle.std.specs.Ordering.{is_lt, ordering_then, nat_cmp}
 use Rattle.std.proofs.lemmas.Bool.{both_ways, cases_order, cases_Bool}
 use Rattle.plan.specs.Streams.{before}
@@ -9,23 +9,23 @@ use Rattle.std.specs.Cmp.Lexicographic.{slice_cmp}
 
 -- the first columns decide, or are equal
 less_head : (x y : ℕ) (xs ys : List ℕ) → x < y → before (x ∷ xs) (y ∷ ys) ≡ true
-less_head x y xs ys h = ap (λ o. is_lt (ordering_then o (slice_cmp nat_cmp xs ys))) (sym (nat_cmp_total.says x y Less h))
+less_head x y xs ys h = ap (λ o. is_lt (ordering_then o (slice_cmp nat_cmp xs ys))) (sym (nat_cmp_is x y Less h))
 
 less_rest : (x y : ℕ) (xs ys : List ℕ) → x ≡ y → before xs ys ≡ true → before (x ∷ xs) (y ∷ ys) ≡ true
-less_rest x y xs ys e h = ap (λ o. is_lt (ordering_then o (slice_cmp nat_cmp xs ys))) (sym (nat_cmp_total.says x y Equal e)) ∙ h
+less_rest x y xs ys e h = ap (λ o. is_lt (ordering_then o (slice_cmp nat_cmp xs ys))) (sym (nat_cmp_is x y Equal e)) ∙ h
 
 less_cases : (x y : ℕ) (xs ys : List ℕ) → before (x ∷ xs) (y ∷ ys) ≡ true → (x < y) ⊎ ((x ≡ y) × (before xs ys ≡ true))
 less_cases x y xs ys h = elim (cases_order x y) [
-  | inl e ↦ inr (e, ap (λ o. is_lt (ordering_then o (slice_cmp nat_cmp xs ys))) (nat_cmp_total.says x y Equal e) ∙ h)
+  | inl e ↦ inr (e, ap (λ o. is_lt (ordering_then o (slice_cmp nat_cmp xs ys))) (nat_cmp_is x y Equal e) ∙ h)
   | inr o ↦ elim o [
     | inl l ↦ inl l
-    | inr l ↦ absurd (both_ways false refl (ap (λ o. is_lt (ordering_then o (slice_cmp nat_cmp xs ys))) (nat_cmp_total.says x y Greater l) ∙ h))
+    | inr l ↦ absurd (both_ways false refl (ap (λ o. is_lt (ordering_then o (slice_cmp nat_cmp xs ys))) (nat_cmp_is x y Greater l) ∙ h))
   ]
 ]
 
 pub irreflexive : (s : List ℕ) → before s s ≡ false
 irreflexive [] = refl
-irreflexive (x ∷ s) = ap (λ o. is_lt (ordering_then o (slice_cmp nat_cmp s s))) (sym (nat_cmp_total.says x x Equal refl)) ∙ irreflexive s
+irreflexive (x ∷ s) = ap (λ o. is_lt (ordering_then o (slice_cmp nat_cmp s s))) (sym (nat_cmp_is x x Equal refl)) ∙ irreflexive s
 
 pub transitive : (s t u : List ℕ) → before s t ≡ true → before t u ≡ true → before s u ≡ true
 transitive [] [] u h k = absurd (both_ways false refl h)

@@ -1,9 +1,9 @@
 -- The truth of a plan's nodes, one by one.
-use Rattle.std.proofs.Common.{◌≡◌, ℕ, ◌<◌, ◌≤◌, Bool, true, false, ◌&&◌, List, [], length, get_or, take, sym, refl, ap, ◌∙◌, ap₂, arith, length-take-le, get_or-take}
+use Rattle.std.proofs.Common.{◌≡◌, ℕ, ◌<◌, Bool, false, ◌&&◌, List, length, get_or, take, sym, refl, ap, ◌∙◌, ap₂, arith, length-take-le, get_or-take}
 use Rattle.std.proofs.lemmas.Bool.{leb-false}
 use Rattle.plan.specs.Answers.{chosen}
 use Rattle.plan.specs.Filling.{leaves_before}
-use Rattle.plan.specs.Nodes.{grown, blank}
+use Rattle.plan.specs.Nodes.{blank}
 use Rattle.plan.specs.Plans.{nodes_of}
 use Rattle.plan.specs.Truths.{part_at, combined, truth_of, truths}
 use Rattle.plan.specs.declared.node.Node.{Node}

@@ -1,11 +1,11 @@
 -- A leaf's fields one by one.
-use Rattle.std.proofs.Common.{◌≡◌, ℕ, zero, suc, ◌+◌, ◌-◌, ◌<◌, ◌≤◌, ◌⊎◌, List, [], ◌∷◌, ◌++◌, length, get_or, take, drop, replicate, refl, ap, ◌∙◌, ap₂, inl, inr, append-nil, arith, length-append, length-take, length-take-le, get_or-take, take-take}
+use Rattle.std.proofs.Common.{◌≡◌, ℕ, zero, suc, ◌+◌, ◌-◌, ◌<◌, ◌≤◌, List, ◌∷◌, ◌++◌, length, get_or, take, drop, replicate, refl, ap, ◌∙◌, ap₂, inl, inr, append-nil, arith, length-append, length-take, length-take-le, get_or-take, take-take}
 use lib.ListN.{length-replicate}
 use Rattle.std.proofs.lemmas.List.{drop_more, take_at, get_or_append_left, get_or-append_right}
 use Rattle.std.proofs.lemmas.Bool.{cases_lt}
 use Rattle.plan.specs.Leaves.{fields_of, opens, matches, opened, filled}
 use Rattle.plan.specs.declared.node.Field.{Field}
-use Rattle.plan.specs.declared.node.Field.TheVariants.{Open, Fixed}
+use Rattle.plan.specs.declared.node.Field.TheVariants.{Fixed}
 
 pub fields_long : (arity : ℕ) (fs : List Field) → length fs ≡ 4 → length (fields_of arity fs) ≡ 4
 fields_long arity fs h = simp (length-append, length-take, length-replicate) (omega arith)

@@ -1,11 +1,10 @@
 -- Values of nodes, each from those of earlier nodes.
-use Rattle.std.proofs.Common.{◌≡◌, ℕ, zero, suc, ◌+◌, ◌<◌, ◌≤◌, Bool, true, false, ◌&&◌, ◌||◌, leb, List, [], ◌∷◌, ◌++◌, length, get_or, take, sym, refl, ap, ◌∙◌, subst, ap₂, append_assoc, append-nil, zero-add, arith, length-append, get_or-take, get_or-append-add}
+use Rattle.std.proofs.Common.{◌≡◌, ℕ, zero, suc, ◌+◌, ◌<◌, false, ◌||◌, leb, List, [], ◌∷◌, ◌++◌, length, get_or, take, sym, refl, ap, ◌∙◌, subst, append_assoc, append-nil, zero-add, arith, length-append, get_or-take, get_or-append-add}
 use lib.Seq.{take-append-add}
 use Rattle.std.proofs.lemmas.Bool.{leb-false, or_parts}
 use Rattle.plan.specs.Nodes.{grown, blank, late}
 use Rattle.plan.specs.Filling.{Earlier}
 use Rattle.plan.specs.declared.node.Node.{Node}
-use Rattle.plan.specs.declared.node.Node.TheVariants.{Leaf, Choice, Pair}
 
 -- what a node names is earlier
 pub pair_early : (k left right : ℕ) → (leb k left || leb k right) ≡ false → (left < k) × (right < k)

@@ -1,10 +1,10 @@
 -- Which lines the lists of lines have.
-use Rattle.std.proofs.Common.{◌≡◌, ℕ, zero, suc, ◌+◌, ◌-◌, ◌≤◌, Bool, true, false, not, ◌&&◌, ◌||◌, eqb, ◌⊎◌, List, [], ◌∷◌, ◌++◌, map, length, take, drop, replicate, filter, sym, refl, ap, ◌∙◌, subst, ap₂, inl, inr, arith, length-append, length-drop, take-append-drop, length-take-le, take-take, drop-drop}
+use Rattle.std.proofs.Common.{◌≡◌, ℕ, zero, suc, ◌+◌, ◌-◌, ◌≤◌, Bool, true, not, ◌&&◌, ◌||◌, eqb, List, [], ◌∷◌, ◌++◌, map, length, take, drop, replicate, filter, sym, refl, ap, ◌∙◌, subst, ap₂, inl, inr, arith, length-append, length-drop, take-append-drop, length-take-le, take-take, drop-drop}
 use mathlib.Core.List.Memᴰ
 use mathlib.Core.List.{Memᴰ}
 use lib.ListN.{length-replicate}
 use Rattle.std.proofs.lemmas.List.{drop-take, take_at, drop_at}
-use Rattle.std.proofs.lemmas.Bool.{both_ways, and_parts, and_from, or_cases, or_left, or_right, eqb-true, eq-eqb}
+use Rattle.std.proofs.lemmas.Bool.{and_parts, and_from, or_cases, or_left, or_right, eqb-true, eq-eqb}
 use Rattle.store.specs.Lists.{all}
 use Rattle.store.specs.Rows.{zero_from}
 use Rattle.store.specs.declared.row.Row.{Row}

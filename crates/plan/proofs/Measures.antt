@@ -1,5 +1,5 @@
 -- The widths of nodes, from an array that has those of the nodes before.
-use Rattle.std.proofs.Common.{◌≡◌, ℕ, ◌<◌, ◌≤◌, Bool, true, false, not, ◌&&◌, leb, List, [], length, get_or, sym, refl, ap, ◌∙◌, subst, ap₂, arith}
+use Rattle.std.proofs.Common.{◌≡◌, ℕ, ◌<◌, true, false, not, ◌&&◌, leb, List, [], length, get_or, sym, refl, ap, ◌∙◌, subst, ap₂, arith}
 use Rattle.std.proofs.lemmas.Bool.{leb-false, and_parts, not-false}
 use Rattle.store.specs.declared.sign.Sign.{Sign}
 use Rattle.plan.specs.Leaves.{fields_of, opens}
@@ -28,12 +28,12 @@ unfit_local : Local 0 unfit
 unfit_local xs ys k same n f = ap₂ (λ fit w. not (fit && leb w 8)) (fit_local xs ys k same n f) (width_local xs ys k same n f)
 
 module _ (nodes : List Node) (early : Earlier nodes) (k : ℕ) (within : k < length nodes) where
-  pub width_at : width_at nodes k ≡ width_of (grown width_of [] nodes) (get_or nodes k blank)
-  width_at = value_at 0 width_of width_local nodes early k within
+  pub width_at_lem : width_at nodes k ≡ width_of (grown width_of [] nodes) (get_or nodes k blank)
+  width_at_lem = value_at 0 width_of width_local nodes early k within
 
   module _ (ws : List ℕ) (same : Agree 0 k ws (grown width_of [] nodes)) where
-    pub width_by : width_of ws (get_or nodes k blank) ≡ width_at nodes k
-    width_by = width_local ws (grown width_of [] nodes) k same (get_or nodes k blank) (early k within) ∙ sym width_at
+    pub width_by_lem : width_of ws (get_or nodes k blank) ≡ width_at nodes k
+    width_by_lem = width_local ws (grown width_of [] nodes) k same (get_or nodes k blank) (early k within) ∙ sym width_at_lem
 
     pub unfit_by : unfit ws (get_or nodes k blank) ≡ unfit_at nodes k
     unfit_by = unfit_local ws (grown width_of [] nodes) k same (get_or nodes k blank) (early k within)
@@ -47,7 +47,7 @@ module _ (nodes : List Node) (early : Earlier nodes) (ws : List ℕ) (wide : Mea
   sides n e = (and_parts (sides_fit (grown width_of [] nodes) n) (leb (width_of (grown width_of [] nodes) n) 8) (not-false _ (subst (λ m. unfit (grown width_of [] nodes) m ≡ false) e (wide k within).0))).0
 
   is_wide : (n : Node) → get_or nodes k blank ≡ n → get_or ws k 0 ≡ width_of (grown width_of [] nodes) n
-  is_wide n e = (wide k within).1 ∙ width_at nodes early k within ∙ ap (width_of (grown width_of [] nodes)) e
+  is_wide n e = (wide k within).1 ∙ width_at_lem nodes early k within ∙ ap (width_of (grown width_of [] nodes)) e
 
   pub leaf_wide : (relation arity : ℕ) (fields : List Field) → get_or nodes k blank ≡ Leaf relation arity fields → get_or ws k 0 ≡ opens (fields_of arity fields)
   leaf_wide relation arity fields e = is_wide (Leaf relation arity fields) e

@@ -1,9 +1,9 @@
 -- Membership in the lists of lines and rows.
-use Rattle.std.proofs.Common.{◌≡◌, ℕ, Bool, true, false, cond, ◌⊎◌, List, [], ◌∷◌, ◌++◌, map, filter, sym, refl, ap, ◌∙◌, subst, inl, inr}
+use Rattle.std.proofs.Common.{◌≡◌, ℕ, Bool, true, false, cond, List, [], ◌∷◌, ◌++◌, map, filter, sym, refl, subst, inl, inr}
 use mathlib.Core.List.Memᴰ
 use mathlib.Core.List.{Memᴰ}
 use Rattle.std.specs.List.{flat_map}
-use Rattle.store.specs.Lists.{any, same_numbers}
+use Rattle.store.specs.Lists.{same_numbers}
 use Rattle.store.specs.Rows.{same_row}
 use Rattle.store.specs.declared.row.Row.{Row}
 use Rattle.store.proofs.Tests.{any_pick, any_put}

@@ -1,15 +1,14 @@
 -- From the least line of a width to the least candidate of eight columns.
-use Rattle.std.proofs.Common.{◌≡◌, ℕ, zero, suc, ◌+◌, ◌-◌, ◌<◌, ◌≤◌, Bool, true, false, ◌⊎◌, List, [], ◌∷◌, ◌++◌, map, length, get_or, take, drop, replicate, Some, None, Option, sym, refl, ap, ◌∙◌, subst, ap₂, inl, inr, arith, length-append, length-drop, take-append-drop, length-take-le, get_or-drop}
+use Rattle.std.proofs.Common.{◌≡◌, ℕ, ◌+◌, ◌-◌, ◌≤◌, Bool, true, false, List, ◌++◌, map, length, take, drop, replicate, Some, None, sym, ap, ◌∙◌, subst, inl, inr, arith, length-append, length-drop, take-append-drop, length-take-le, get_or-drop}
 use mathlib.Core.List.Memᴰ
 use mathlib.Core.List.{Memᴰ}
 use Rattle.std.proofs.lemmas.List.{get_or-replicate, length-replicate, ext_get_or, take_at}
 use Rattle.std.proofs.lemmas.Bool.{both_ways}
-use Rattle.store.proofs.Tests.{from_not, same_tests}
+use Rattle.store.proofs.Tests.{same_tests}
 use Rattle.plan.specs.Answers.{has, padded}
 use Rattle.plan.specs.Seeking.{reaches, Padded, Least}
 use Rattle.plan.specs.Streams.{before}
 use Rattle.plan.specs.declared.seek.Start.{Start}
-use Rattle.plan.specs.declared.seek.Start.TheVariants.{First, At, Past}
 use Rattle.plan.proofs.Having.{Long}
 use Rattle.plan.proofs.Members.{line_in, line_has}
 use Rattle.plan.proofs.Before.{front_less, front_cases, none_before_zeros}

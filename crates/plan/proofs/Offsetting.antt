@@ -1,11 +1,11 @@
 -- The offsets, from the last node down.
-use Rattle.std.proofs.Common.{◌≡◌, ℕ, ◌+◌, ◌-◌, ◌<◌, ◌≤◌, Bool, true, false, cond, not, ◌&&◌, eqb, leb, ◌≢◌, ◌⊎◌, List, [], ◌∷◌, length, get_or, take, set, sum_by, sym, refl, ap, ◌∙◌, subst, ap₂, inl, inr, arith, length-set, length-take-le, get_or-set_other, get_or-take, get_or-set_same}
+use Rattle.std.proofs.Common.{◌≡◌, ℕ, ◌+◌, ◌-◌, ◌<◌, ◌≤◌, true, false, cond, eqb, List, length, get_or, take, set, sum_by, sym, refl, ap, ◌∙◌, subst, inl, inr, arith, length-set, length-take-le, get_or-set_other, get_or-take, get_or-set_same}
 use Rattle.std.proofs.lemmas.List.Sums.{sum_by_more, sum_by-take-le, get_or-le-sum_by}
 use Rattle.std.proofs.lemmas.Bool.{eq-eqb, ne_eqb, eqb-true, leb-false, and_parts, and_from, not-false, cases_lt, cases_eq}
-use Rattle.plan.specs.Answers.{width_by, width_at}
+use Rattle.plan.specs.Answers.{width_by}
 use Rattle.plan.specs.Filling.{Earlier, alike, stray_at}
 use Rattle.plan.specs.Nodes.{blank, late, namings}
-use Rattle.plan.specs.Parts.{Measured, right_start, passes, Offsets, Roomy}
+use Rattle.plan.specs.Parts.{Measured, right_start, passes, Roomy}
 use Rattle.plan.specs.declared.node.Side.{Side}
 use Rattle.plan.specs.declared.node.Op.{Op}
 use Rattle.plan.specs.declared.node.Op.TheVariants.{Product, Union, Difference}
@@ -15,7 +15,6 @@ use Rattle.plan.specs.declared.node.Node.TheVariants.{Leaf, Choice, Pair}
 use Rattle.store.specs.declared.sign.Sign.{Sign}
 use Rattle.plan.proofs.Grown.{pair_early}
 use Rattle.plan.proofs.Measures.{choice_fits, pair_fits}
-use Rattle.plan.proofs.Writes.{every}
 
 hit : (n c : ℕ) → n ≡ c → ◌≡◌ {A = ℕ} (cond (eqb n c) 1 0) 1
 hit n c e = ap (λ b. cond b 1 0) (eq-eqb n c e)

@@ -1,5 +1,5 @@
 -- What a plan keeps of its nodes, one by one.
-use Rattle.std.proofs.Common.{◌≡◌, ℕ, ◌+◌, ◌<◌, ◌≤◌, true, ◌&&◌, List, length, get_or, drop, sym, refl, ap, ◌∙◌, subst, arith, length-drop, length-take-le, get_or-take}
+use Rattle.std.proofs.Common.{◌≡◌, ℕ, ◌<◌, true, ◌&&◌, List, length, get_or, drop, sym, ◌∙◌, subst, arith, length-drop, length-take-le, get_or-take}
 use Rattle.store.specs.declared.sign.Sign.{Sign}
 use Rattle.plan.specs.Answers.{width_by}
 use Rattle.plan.specs.Filling.{inside, alike}

@@ -1,5 +1,5 @@
 -- The least line of a product, from the least lines of its sides.
-use Rattle.std.proofs.Common.{◌≡◌, ℕ, ◌+◌, Bool, true, false, not, ◌⊎◌, List, ◌++◌, length, take, Some, None, sym, refl, ◌∙◌, subst, inl, inr}
+use Rattle.std.proofs.Common.{◌≡◌, ℕ, ◌+◌, Bool, true, false, ◌⊎◌, List, ◌++◌, length, take, Some, None, sym, refl, ◌∙◌, subst, inl, inr}
 use mathlib.Core.List.{Memᴰ}
 use Rattle.std.proofs.lemmas.Bool.{both_ways, not-true, not_from_false, cases_Bool}
 use Rattle.store.proofs.Tests.{from_not}

@@ -1,5 +1,5 @@
 -- The search at a node, from the searches at the nodes that it names.
-use Rattle.std.proofs.Common.{◌≡◌, ℕ, ◌+◌, ◌-◌, ◌<◌, ◌≤◌, Bool, true, false, List, [], ◌++◌, length, get_or, take, drop, Some, None, Option, sym, refl, ap, ◌∙◌, subst, ap₂, arith, take-append-drop, length-take-le, take-take}
+use Rattle.std.proofs.Common.{◌≡◌, ℕ, ◌+◌, ◌-◌, ◌<◌, ◌≤◌, Bool, true, List, [], ◌++◌, length, get_or, take, drop, Some, None, Option, sym, refl, ap, ◌∙◌, subst, ap₂, arith, take-append-drop, length-take-le, take-take}
 use Rattle.std.proofs.lemmas.List.{drop-take}
 use Rattle.std.proofs.lemmas.Bool.{eqb-true}
 use Rattle.store.specs.declared.row.Row.{Row}
@@ -17,12 +17,12 @@ use Rattle.plan.specs.declared.node.Node.{Node}
 use Rattle.plan.specs.declared.node.Node.TheVariants.{Leaf, Choice, Pair}
 use Rattle.plan.specs.declared.plan.Plan.{Plan}
 use Rattle.plan.specs.declared.seek.Start.{Start}
-use Rattle.plan.specs.declared.seek.Start.TheVariants.{First, At, Past}
+use Rattle.plan.specs.declared.seek.Start.TheVariants.{First, Past}
 use Rattle.plan.proofs.Candidates.{candidates_at_lem, long_candidates}
 use Rattle.plan.proofs.Going.{Goes, goes_end, going_none, going_found}
 use Rattle.plan.proofs.Having.{Long}
 use Rattle.plan.proofs.Least.{least_append}
-use Rattle.plan.proofs.PlanNodes.{leaf_in, choice_in, pair_in}
+use Rattle.plan.proofs.PlanNodes.{choice_in, pair_in}
 use Rattle.plan.proofs.Products.{product_none, product_empty, product_here, product-over, product-next}
 
 two_parts : {A : Type 0} (m n : ℕ) (xs : List A) → take (m + n) xs ≡ take m xs ++ take n (drop m xs)

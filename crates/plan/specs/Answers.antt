@@ -1,5 +1,5 @@
 -- What a plan answers: over a list of rows, each node has a width and a list of lines as wide as that.
-use Rattle.std.specs.Prelude.{ℕ, ◌+◌, ◌-◌, Bool, not, ◌&&◌, List, [], ◌∷◌, ◌++◌, map, length, replicate, filter, slice_index, slice_index_or}
+use Rattle.std.specs.Prelude.{ℕ, ◌+◌, ◌-◌, Bool, not, List, [], ◌++◌, map, length, replicate, filter, slice_index, slice_index_or}
 use Rattle.std.specs.List.{flat_map}
 use Rattle.store.specs.Lists.{any, same_numbers}
 use Rattle.store.specs.Rows.{same_row}

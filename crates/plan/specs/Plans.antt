@@ -1,5 +1,5 @@
 -- What a plan is, and what filling one does.
-use Rattle.std.specs.Prelude.{◌≡◌, ℕ, List, [], ◌∷◌, take, replicate, Some, None, Ok, Err, Result}
+use Rattle.std.specs.Prelude.{◌≡◌, List, [], ◌∷◌, take, replicate, Some, None, Ok, Err, Result}
 use Rattle.plan.specs.Filling.{fill_refusal}
 use Rattle.plan.specs.declared.node.Field.TheVariants.{Open}
 use Rattle.plan.specs.declared.node.Node.{Node}

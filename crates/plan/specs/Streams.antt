@@ -1,5 +1,5 @@
 -- The candidate lines of a plan, in ascending order.
-use Rattle.std.specs.Prelude.{◌≡◌, ℕ, ◌-◌, Bool, true, false, not, List, [], ◌∷◌, ◌++◌, map, length, Some, None, filter, Option, slice_index_or}
+use Rattle.std.specs.Prelude.{◌≡◌, ℕ, ◌-◌, Bool, true, false, List, [], map, length, Some, None, filter, Option, slice_index_or}
 use Rattle.std.specs.Ordering.{is_lt, nat_cmp}
 use Rattle.store.specs.declared.row.Row.{Row}
 use Rattle.plan.specs.Answers.{has, chosen, linesBy, padded}

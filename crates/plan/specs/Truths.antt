@@ -1,5 +1,5 @@
 -- The rows that a line names at a plan's leaves, and the plan's truth at them.
-use Rattle.std.specs.Prelude.{◌≡◌, ℕ, ◌-◌, Bool, true, false, not, ◌&&◌, ◌||◌, List, [], ◌∷◌, map, length, take, drop, ◌==◌, slice_index, slice_index_or}
+use Rattle.std.specs.Prelude.{◌≡◌, ℕ, ◌-◌, Bool, false, not, ◌&&◌, ◌||◌, List, [], map, length, take, drop, ◌==◌, slice_index, slice_index_or}
 use Rattle.store.specs.Rows.{zero_from}
 use Rattle.store.specs.declared.row.Row.{Row}
 use Rattle.plan.specs.Answers.{among, chosen, planWidth}

@@ -29,7 +29,8 @@ pub fn fields_of(arity: u8, fields: [Field; 4]) -> [Field; 4]
 
 // How many of the fields are open.
 pub fn open_count(fields: [Field; 4]) -> usize
-    ensures { (result ≡ opens fields) × (result ≤ 4) }
+    ensures count { result ≡ opens fields }
+    ensures few { result ≤ 4 }
 {
     let mut open = 0;
     for field in fields {

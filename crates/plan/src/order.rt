@@ -30,7 +30,8 @@ pub fn first_late(nodes: &[Node]) -> Option<usize>
 
 // How often the node names the one at `k`.
 fn namings_in(node: Node, k: usize) -> usize
-    ensures { (result ≡ namings k node) × (result ≤ 2) }
+    ensures count { result ≡ namings k node }
+    ensures few { result ≤ 2 }
 {
     match node {
         Node::Leaf { .. } => 0,

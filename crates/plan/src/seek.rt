@@ -88,7 +88,8 @@ pub fn row_line(
     start: Start,
     width: usize,
 ) -> Option<[u32; 8]>
-    requires { (width ≤ 8) × (width ≡ opens fields) }
+    requires room { width ≤ 8 }
+    requires wide { width ≡ opens fields }
     ensures { Least (leaf_lines relation fields (row.now ∷ [])) start (take width at.now) width result }
 {
     if row.relation != relation {

@@ -21,7 +21,8 @@ const OPEN: Node = Node::Leaf {
 // The nodes in an array that is long enough for any plan.
 fn copied(nodes: &[Node]) -> [Node; 16]
     requires { length nodes.now ≤ 16 }
-    ensures { (take (length nodes.now) result ≡ nodes.now) × (length result ≡ 16) }
+    ensures same { take (length nodes.now) result ≡ nodes.now }
+    ensures long { length result ≡ 16 }
 {
     let mut all = [OPEN; 16];
     for i in 0..nodes.len() {

@@ -1,6 +1,6 @@
-use Rattle.std.proofs.Common.{◌≡◌, ◌+◌, ◌<◌, ◌≤◌, [], ◌∷◌, ◌++◌, length, get_or, take, drop, sym, refl, ap, ◌∙◌, ap₂, append_assoc, append-nil, arith, length-set, take_all}
+use Rattle.std.proofs.Common.{◌≡◌, ◌+◌, ◌<◌, ◌∷◌, ◌++◌, length, take, drop, sym, ap, ◌∙◌, ap₂, append_assoc, append-nil, arith, length-set, take_all}
 use Rattle.std.proofs.lemmas.List.{take_more_set, drop_more, drop_all}
-use Rattle.plan.specs.Leaves.{opens, filled}
+use Rattle.plan.specs.Leaves.{filled}
 use Rattle.plan.specs.declared.node.Field.TheVariants.{Open}
 use Rattle.plan.proofs.Fields.{opens_left, filled_left}
 use Rattle.plan.proofs.leaf.named_row.Goals as goal

@@ -16,4 +16,4 @@ loop-field-preserved c =
     ]
 
 pub returns : goal.returns
-returns c = (omega (arith, at_drop_all opens c.args.fields c.loop-field.field-index (omega arith)), omega arith)
+returns c = record { count = omega (arith, at_drop_all opens c.args.fields c.loop-field.field-index (omega arith)); few = omega arith }

@@ -1,8 +1,8 @@
-use Rattle.std.proofs.Common.{◌≡◌, ◌+◌, ◌<◌, ◌≤◌, true, false, ◌++◌, length, get_or, take, drop, sym, ap, ◌∙◌, subst, ap₂, append-nil, arith, length-set, below_more}
+use Rattle.std.proofs.Common.{◌≡◌, ◌+◌, ◌<◌, false, ◌++◌, length, get_or, take, drop, sym, ap, ◌∙◌, ap₂, append-nil, arith, length-set, below_more}
 use Rattle.std.proofs.lemmas.List.{at_drop_all}
 use Rattle.plan.specs.Nodes.{blank}
 use Rattle.plan.specs.Gathering.{leaves_from, places_of}
-use Rattle.plan.specs.Filling.{poor, poor_at, leaves_before}
+use Rattle.plan.specs.Filling.{poor, poor_at}
 use Rattle.plan.proofs.Firsts.{spots_at, spots_none}
 use Rattle.plan.proofs.Standing.{one_of_six, count_leaf, count_other, stand_leaf, stand_other}
 use Rattle.plan.proofs.leaves.gather.Goals as goal

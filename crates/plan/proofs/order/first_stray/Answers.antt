@@ -1,4 +1,4 @@
-use Rattle.std.proofs.Common.{◌≡◌, ◌-◌, not, eqb, length, sum_by, sym, ap, ◌∙◌, arith, below_more}
+use Rattle.std.proofs.Common.{◌-◌, not, length, sum_by, sym, ap, ◌∙◌, arith, below_more}
 use Rattle.std.proofs.lemmas.Bool.{eq-eqb, ne_eqb}
 use Rattle.plan.specs.Nodes.{namings}
 use Rattle.plan.specs.Filling.{stray_at}

@@ -1,6 +1,6 @@
-use Rattle.std.proofs.Common.{◌≡◌, true, eqb, take, sym, ap, ◌∙◌, subst, arith}
+use Rattle.std.proofs.Common.{eqb, take, sym, ap, ◌∙◌, subst}
 use Rattle.std.proofs.lemmas.Bool.{and_left, and_right, and_from, ne_eqb, eq-eqb}
-use Rattle.plan.specs.Leaves.{matches, opened}
+use Rattle.plan.specs.Leaves.{matches}
 use Rattle.plan.specs.Seeking.{Padded}
 use Rattle.plan.proofs.Least.{row_no, row_far, row_yes}
 use Rattle.plan.proofs.seek.row_line.Goals as goal
@@ -25,7 +25,7 @@ returns-then-is_reached c =
     let (m, o, l, z) = c.in-Some.ensures in
     row_yes c.args.start (take w c.args.at.now) w c.args.relation c.args.fields row
     (and_from (eqb c.args.relation row.relation) (matches c.args.fields row.columns) (eq-eqb c.args.relation row.relation (sym c.if-row-relation.false)) m)
-    line (ap (λ n. take n line) c.requires.1 ∙ o) (sym c.if-is_reached.ensures) l (subst (λ n. Padded n line) (sym c.requires.1) z)
+    line (ap (λ n. take n line) c.requires.wide ∙ o) (sym c.if-is_reached.ensures) l (subst (λ n. Padded n line) (sym c.requires.wide) z)
 
 pub returns-else-is_reached : goal.returns-else-is_reached
 returns-else-is_reached c =
@@ -35,4 +35,4 @@ returns-else-is_reached c =
     let (m, o, l, z) = c.in-Some.ensures in
     row_far c.args.start (take w c.args.at.now) w c.args.relation c.args.fields row
     (and_from (eqb c.args.relation row.relation) (matches c.args.fields row.columns) (eq-eqb c.args.relation row.relation (sym c.if-row-relation.false)) m)
-    line (ap (λ n. take n line) c.requires.1 ∙ o) (sym c.if-is_reached.ensures)
+    line (ap (λ n. take n line) c.requires.wide ∙ o) (sym c.if-is_reached.ensures)

@@ -1,4 +1,4 @@
-use Rattle.std.proofs.Common.{◌≡◌, ℕ, ◌<◌, ◌≤◌, false, length, get_or}
+use Rattle.std.proofs.Common.{◌≡◌, ℕ, ◌<◌, false, length, get_or}
 use Rattle.plan.specs.Filling.{leaves_before}
 use Rattle.plan.specs.Plans.{nodes_of}
 use Rattle.plan.specs.Truths.{truths}

@@ -1,10 +1,8 @@
-use Rattle.std.proofs.Common.{◌≡◌, ◌<◌, length, get_or, Some, sym, ap, ◌∙◌, subst, arith}
+use Rattle.std.proofs.Common.{◌≡◌, get_or, Some, sym, ap, ◌∙◌, arith}
 use Rattle.std.proofs.lemmas.Option.{slice_get-get_or, slice_get_past}
 use Rattle.plan.specs.Gathering.{leaves_of}
-use Rattle.plan.specs.Leaves.{fields_of}
 use Rattle.plan.specs.Nodes.{blank, leaf_count}
 use Rattle.plan.specs.Plans.{nodes_of}
-use Rattle.plan.specs.declared.leaf.PlanLeaf.{PlanLeaf}
 use Rattle.plan.proofs.Numbering.{leaf_of}
 use Rattle.plan.proofs.PlanLeaves.{leaves_long, leaf_at}
 use Rattle.plan.proofs.Standing.{no_leaf_count}

@@ -1,4 +1,4 @@
-use Rattle.std.proofs.Common.{◌≡◌, ℕ, ◌<◌, ◌≤◌, length, get_or, Some, None, sym, ap, ◌∙◌, subst, arith}
+use Rattle.std.proofs.Common.{Some, sym, ap, ◌∙◌}
 use Rattle.plan.specs.Gathering.{leaves_of}
 use Rattle.plan.specs.Leaves.{named}
 use Rattle.plan.specs.Plans.{nodes_of}
@@ -6,7 +6,7 @@ use Rattle.plan.specs.Truths.{part_at}
 use Rattle.plan.specs.declared.leaf.PlanLeaf.{PlanLeaf}
 use Rattle.store.specs.declared.row.Row.{Row}
 use Rattle.plan.proofs.Numbering.{nth_map_some, nth_map_none}
-use Rattle.plan.proofs.PlanLeaves.{LeafIn, leaf_read, leaf_width}
+use Rattle.plan.proofs.PlanLeaves.{leaf_read, leaf_width}
 use Rattle.plan.proofs.plan.Plan.named.Goals as goal
 
 pub returns-in_default : goal.returns-in_default

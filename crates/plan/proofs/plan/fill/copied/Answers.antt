@@ -1,4 +1,4 @@
-use Rattle.std.proofs.Common.{◌≡◌, ◌+◌, ◌<◌, [], ◌∷◌, ◌++◌, length, get_or, take, set, sym, ap, ◌∙◌, arith, length-set, take_all}
+use Rattle.std.proofs.Common.{◌≡◌, ◌<◌, [], ◌∷◌, ◌++◌, length, get_or, take, sym, ap, ◌∙◌, arith, length-set, take_all}
 use Rattle.std.proofs.lemmas.List.{take_more, take_more_set}
 use Rattle.plan.specs.Nodes.{blank}
 use Rattle.plan.proofs.plan.fill.copied.Goals as goal
@@ -17,4 +17,4 @@ pub returns : goal.returns
 returns c =
     let nodes = c.args.nodes.now in
     let e : c.loop-i.i ≡ length nodes = omega arith in
-    (ap (λ n. take n c.loop-i.all) (sym e) ∙ c.loop-i.invariant.0 ∙ take_all c.loop-i.i nodes (omega arith), c.loop-i.invariant.1)
+    record { same = ap (λ n. take n c.loop-i.all) (sym e) ∙ c.loop-i.invariant.0 ∙ take_all c.loop-i.i nodes (omega arith); long = c.loop-i.invariant.1 }
