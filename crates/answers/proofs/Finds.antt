@@ -1,5 +1,5 @@
 -- What find tells of a row: whether it is among the rows held.
-use Rattle.std.proofs.Common.{◌≡◌, ℕ, true, is_some, Some, None, Option, sym, ◌∙◌}
+use Rattle.std.proofs.Common.{◌≡◌, ℕ, is_some, Some, None, Option, sym, ◌∙◌}
 use Rattle.store.specs.Held.{rows_of}
 use Rattle.store.specs.Store.{Store, FindSays}
 use Rattle.store.specs.declared.row.Row.{Row}

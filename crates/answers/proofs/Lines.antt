@@ -1,5 +1,5 @@
 -- The columns of a line past a plan's width.
-use Rattle.std.proofs.Common.{◌≡◌, ℕ, ◌<◌, ◌≤◌, true, false, cond, not, ◌&&◌, eqb, leb, List, length, get_or, Some, None, ap, ◌∙◌, arith}
+use Rattle.std.proofs.Common.{◌≡◌, ℕ, ◌<◌, ◌≤◌, false, cond, not, ◌&&◌, eqb, leb, List, length, get_or, Some, None, ap, ◌∙◌, arith}
 use Rattle.std.proofs.lemmas.Bool.{eq-eqb, ne_eqb, le-leb, lt-leb, and_from, and_right}
 use Rattle.plan.specs.Filling.{first}
 use Rattle.plan.proofs.Firsts.{first_is_lem, first_none}

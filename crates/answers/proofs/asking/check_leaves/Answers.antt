@@ -1,14 +1,11 @@
-use Rattle.std.proofs.Common.{◌≡◌, ℕ, ◌<◌, cond, eqb, length, get_or, drop, Some, None, Option, sym, ap, ◌∙◌, arith}
-use Rattle.std.proofs.lemmas.List.{at_drop_more, at_drop_all}
-use Rattle.std.proofs.lemmas.Option.{slice_get-get_or}
-use Rattle.std.proofs.lemmas.Bool.{eq-eqb, ne_eqb}
+use Rattle.std.proofs.Common.{sym, ◌∙◌, arith}
+use Rattle.std.proofs.lemmas.List.{at_drop_all}
 use Rattle.plan.specs.Gathering.{leaves_of}
 use Rattle.plan.specs.Plans.{nodes_of}
-use Rattle.plan.specs.declared.leaf.PlanLeaf.{PlanLeaf}
 use Rattle.answers.specs.Asking.{leaves_fail}
 use Rattle.answers.proofs.Leaves.{leaf_fails, leaf_passes, leaf_there}
 use Rattle.answers.proofs.asking.check_leaves.Goals as goal
-use Rattle.answers.proofs.asking.check_leaves.Goals.{in-Some+else-leaf-arity, in-default}
+use Rattle.answers.proofs.asking.check_leaves.Goals.{in-Some+else-leaf-arity, in_default}
 
 pub returns-then-leaf-arity : goal.returns-then-leaf-arity
 returns-then-leaf-arity g c =
@@ -21,7 +18,7 @@ loop-number-preserved g c =
     let i = c.loop-number.number in
     elim c.match-leaf.branch [
       | in-Some+else-leaf-arity w ↦ leaf_passes _ leaves i w.in-Some.leaf w.in-Some.ensures (w.if-leaf-arity.false ∙ w.arity.ensures) ∙ c.loop-number.invariant
-      | in-default w ↦ absurd (leaf_there leaves i (omega (arith, c.leaves-number-end.ensures.count)) w.in-default.ensures)
+      | in_default w ↦ absurd (leaf_there leaves i (omega (arith, c.leaves-number-end.ensures.count)) w.in_default.ensures)
     ]
 
 pub returns : goal.returns

@@ -1,6 +1,4 @@
-use Rattle.std.proofs.Common.{sym, ◌∙◌, arith, below_more}
-use Rattle.plan.specs.Answers.{planWidth}
-use Rattle.plan.specs.Plans.{nodes_of}
+use Rattle.std.proofs.Common.{arith, below_more}
 use Rattle.answers.proofs.Lines.{over_early, over_zero, line_fails, line_passes}
 use Rattle.answers.proofs.asking.check_line.Goals as goal
 

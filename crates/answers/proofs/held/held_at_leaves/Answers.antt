@@ -8,7 +8,7 @@ use Rattle.plan.specs.Truths.{named_rows}
 use Rattle.plan.proofs.PlanLeaves.{named_long}
 use Rattle.answers.proofs.Finds.{found}
 use Rattle.answers.proofs.held.held_at_leaves.Goals as goal
-use Rattle.answers.proofs.held.held_at_leaves.Goals.{in-Some, in-default}
+use Rattle.answers.proofs.held.held_at_leaves.Goals.{in-Some, in_default}
 
 pub loop-leaf-preserved : goal.loop-leaf-preserved
 loop-leaf-preserved g c =
@@ -26,12 +26,12 @@ loop-leaf-preserved g c =
           let at : Some row ≡ Some (get_or named i row) = w.in-Some.ensures ∙ slice_get-get_or named i row h in
           let is : row ≡ get_or named i row = cc in (
             ap length w.truth-is ∙ length-set truth i _ ∙ six,
-            ap (take (i + 1)) w.truth-is ∙ take_more_set truth i _ room ∙ ap₂ (λ front b. front ++ (b ∷ [])) same (w.is-some.ensures ∙ found s row _ w.find.ensures ∙ ap has is)
+            ap (take (i + 1)) w.truth-is ∙ take_more_set truth i _ room ∙ ap₂ (λ front b. front ++ (b ∷ [])) same (w.is_some.ensures ∙ found s row _ w.find.ensures ∙ ap has is)
                 ∙ sym (map_more has named i row h),
           )
-      | in-default w ↦
+      | in_default w ↦
           let none : Row = record { relation = 0; columns = [] } in
-          let at : ◌≡◌ {A = Option Row} None (Some (get_or named i none)) = w.in-default.ensures ∙ slice_get-get_or named i none h in
+          let at : ◌≡◌ {A = Option Row} None (Some (get_or named i none)) = w.in_default.ensures ∙ slice_get-get_or named i none h in
           absurd (let z : ◌≡◌ {A = ℕ} 0 1 = cc in omega arith)
     ]
 

@@ -6,7 +6,7 @@ use Rattle.plan.specs.Answers.{among}
 use Rattle.plan.specs.Truths.{named_rows}
 use Rattle.plan.proofs.PlanLeaves.{named_long}
 use Rattle.plan_examples.proofs.answers.is_answer.Goals as goal
-use Rattle.plan_examples.proofs.answers.is_answer.Goals.{in-Some, in-default}
+use Rattle.plan_examples.proofs.answers.is_answer.Goals.{in-Some, in_default}
 
 pub loop-leaf-preserved : goal.loop-leaf-preserved
 loop-leaf-preserved c =
@@ -23,11 +23,11 @@ loop-leaf-preserved c =
           let at : Some row ≡ Some (get_or named i row) = w.in-Some.ensures ∙ slice_get-get_or named i row h in
           let is : row ≡ get_or named i row = cc in (
             ap length w.truth-is ∙ length-set truth i _ ∙ six,
-            ap (take (i + 1)) w.truth-is ∙ take_more_set truth i _ room ∙ ap₂ (λ front b. front ++ (b ∷ [])) same (w.is-among.ensures ∙ ap has is) ∙ sym (map_more has named i row h),
+            ap (take (i + 1)) w.truth-is ∙ take_more_set truth i _ room ∙ ap₂ (λ front b. front ++ (b ∷ [])) same (w.is_among.ensures ∙ ap has is) ∙ sym (map_more has named i row h),
           )
-      | in-default w ↦
+      | in_default w ↦
           let none : Row = record { relation = 0; columns = [] } in
-          let at : ◌≡◌ {A = Option Row} None (Some (get_or named i none)) = w.in-default.ensures ∙ slice_get-get_or named i none h in
+          let at : ◌≡◌ {A = Option Row} None (Some (get_or named i none)) = w.in_default.ensures ∙ slice_get-get_or named i none h in
           absurd (let z : ◌≡◌ {A = ℕ} 0 1 = cc in omega arith)
     ]
 

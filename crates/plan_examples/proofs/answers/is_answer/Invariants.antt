@@ -1,4 +1,4 @@
-use Rattle.std.proofs.Common.{◌≡◌, ◌≤◌, map, length, take}
+use Rattle.std.proofs.Common.{◌≡◌, map, length, take}
 use Rattle.plan.specs.Answers.{among}
 use Rattle.plan.specs.Truths.{named_rows}
 use Rattle.plan_examples.proofs.answers.is_answer.Given as goal
