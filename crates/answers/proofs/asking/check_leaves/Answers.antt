@@ -10,14 +10,14 @@ use Rattle.answers.proofs.asking.check_leaves.Goals.{in-Some+else-leaf-arity, in
 pub returns-then-leaf-arity : goal.returns-then-leaf-arity
 returns-then-leaf-arity g c =
     let leaves = leaves_of (nodes_of c.args.plan.now) in
-    sym c.loop-number.invariant ∙ leaf_fails _ leaves c.loop-number.number c.in-Some.leaf c.in-Some.ensures (λ e. c.if-leaf-arity.true (e ∙ sym c.arity.ensures))
+    sym c.loop-number.invariant ∙ leaf_fails _ leaves c.loop-number.number c.in-Some.leaf c.in-Some.ensures (λ e. omega arith)
 
 pub loop-number-preserved : goal.loop-number-preserved
 loop-number-preserved g c =
     let leaves = leaves_of (nodes_of c.args.plan.now) in
     let i = c.loop-number.number in
     elim c.match-leaf.branch [
-      | in-Some+else-leaf-arity w ↦ leaf_passes _ leaves i w.in-Some.leaf w.in-Some.ensures (w.if-leaf-arity.false ∙ w.arity.ensures) ∙ c.loop-number.invariant
+      | in-Some+else-leaf-arity w ↦ leaf_passes _ leaves i w.in-Some.leaf w.in-Some.ensures (omega arith) ∙ c.loop-number.invariant
       | in_default w ↦ absurd (leaf_there leaves i (omega (arith, c.leaves-number-end.ensures.count)) w.in_default.ensures)
     ]
 
