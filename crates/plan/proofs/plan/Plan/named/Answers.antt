@@ -1,4 +1,4 @@
-use Rattle.std.proofs.Common.{Some, sym, ap, ◌∙◌}
+use Rattle.std.proofs.Common.{Some, sym, ap, ◌∙◌, arith}
 use Rattle.plan.specs.Gathering.{leaves_of}
 use Rattle.plan.specs.Leaves.{named}
 use Rattle.plan.specs.Plans.{nodes_of}
@@ -13,7 +13,7 @@ pub returns-in_default : goal.returns-in_default
 returns-in_default c = sym (nth_map_none _ (leaves_of (nodes_of c.args.self.now)) c.args.number (sym c.in_default.ensures))
 
 pub part-requires : goal.part-requires
-part-requires c = (leaf_read c.args.self.now c.args.number c.in-Some.leaf (sym c.in-Some.ensures)).1.within
+part-requires c = omega (arith, (leaf_read c.args.self.now c.args.number c.in-Some.leaf (sym c.in-Some.ensures)).1.within, c.args.self.now.some)
 
 pub named_row-requires : goal.named_row-requires
 named_row-requires c =
