@@ -1,5 +1,5 @@
 -- Lists that ascend: by head and tail, by places, and what a filter leaves. Assumes nothing.
-use Rattle.std.proofs.Common.{◌≡◌, zero, suc, Bool, true, false, List, [], ◌∷◌, filter, Ordering, Less, Equal, Greater, sym, refl, ap, true≢false, arith}
+use Rattle.std.proofs.Common.{◌≡◌, zero, suc, Bool, true, List, [], ◌∷◌, filter, Ordering, Less, Equal, Greater, sym, refl, ap, true≢false, arith}
 use Rattle.std.specs.Ordering.{is_lt}
 use Rattle.std.specs.List.{list_all, AllByRecursion as All}
 use Rattle.std.proofs.ByRecursion.{All-get_or, All-from_get_or, all_kept_by}

@@ -14,8 +14,8 @@ pub struct Full;
 // Where an equal item stands already, nothing is altered.
 pub fn enter<T: Ordered + Copy>(items: &mut [T], count: usize, x: T) -> Result<usize, Full>
     ensures { MatchResult result
-        (Enters order x (take count items.old) items.old items.new)
-        (λ _. Refuses order x (take count items.old) items.old items.new) }
+        (Enters T.order x (take count items.old) items.old items.new)
+        (λ _. Refuses T.order x (take count items.old) items.old items.new) }
 {
     let count = count.min(items.len());
     let place = match find(items, count, &x) {

@@ -8,8 +8,8 @@ use std::cmp::Ordering;
 // Where `x` stands among the first `count` items, which ascend, or else where it belongs.
 pub fn find<T: Ordered>(items: &[T], count: usize, x: &T) -> Result<usize, usize>
     ensures { MatchResult result
-        (Stands order (take count items.now) x.now)
-        (Belongs order (take count items.now) x.now) }
+        (Stands T.order (take count items.now) x.now)
+        (Belongs T.order (take count items.now) x.now) }
 {
     let mut low = 0;
     let mut high = count.min(items.len());

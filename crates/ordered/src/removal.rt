@@ -12,7 +12,7 @@ pub trait Test<T> {
 
 // Keeps those of the first `count` items that pass, in their order, and tells how many they are; from there on all stays.
 pub fn retain<T: Copy, P: Test<T>>(items: &mut [T], count: usize, keep: &P) -> usize
-    ensures { Retains (passes keep.now) (take count items.old) items.old items.new result }
+    ensures { Retains (P.passes keep.now) (take count items.old) items.old items.new result }
 {
     let mut passed = 0;
     for i in 0..count.min(items.len()) {
