@@ -76,7 +76,7 @@ exact_from bytes whole = sym (records_joined record_of (places_of bytes) (places
 -- a page is whole records
 pub long_from : (bytes : List ℕ) → page_of (places_of bytes) ≡ bytes → length bytes ≡ 20 * length (places_of bytes)
 unfolding page_of places_of
-long_from bytes whole = ap length (sym whole) ∙ Rattle.page.proofs.Chunks.length-joined record_of (places_of bytes) (places_long (records_of bytes))
+long_from bytes whole = ap length (sym whole) ∙ Rattle.page.proofs.Chunks.length_joined record_of (places_of bytes) (places_long (records_of bytes))
 
 -- each record is the record of its place
 pub record_at : (bytes : List ℕ) → Exact bytes → (p : ℕ) → p < length (places_of bytes) → record_of (get_or (places_of bytes) p None) ≡ get_or (records_of bytes) p []

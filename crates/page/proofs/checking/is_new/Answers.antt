@@ -13,7 +13,7 @@ returns-in-Some c =
     let records = c.args.records.now in
     let place = c.args.place in
     let earlier : map place_of (take (place - 0) records) ≡ take place (map place_of records) = ap (λ (n : ℕ). map place_of (take n records)) (sub-zero place) ∙ sym (take-map place_of place records) in
-    ap not (c.stands-in.ensures ∙ ap (any (is_row c.in-Some.row)) earlier) ∙ ap (is_new_to (take place (map place_of records))) (c.in-Some.ensures ∙ sym (place_of_lem records place))
+    ap not (c.stands_in.ensures ∙ ap (any (is_row c.in-Some.row)) earlier) ∙ ap (is_new_to (take place (map place_of records))) (c.in-Some.ensures ∙ sym (place_of_lem records place))
 
 pub returns-in-None : goal.returns-in-None
 returns-in-None c =

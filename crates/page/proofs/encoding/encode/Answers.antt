@@ -15,11 +15,11 @@ returns c =
         c.lay-3.ensures,
         c.lay-2.ensures,
         c.lay.ensures,
-        c.to-be-bytes-relation.ensures,
-        c.to-be-bytes-a.ensures,
-        c.to-be-bytes-b.ensures,
-        c.to-be-bytes-c.ensures,
-        c.to-be-bytes-d.ensures,
+        c.to_be_bytes-relation.ensures,
+        c.to_be_bytes-a.ensures,
+        c.to_be_bytes-b.ensures,
+        c.to_be_bytes-c.ensures,
+        c.to_be_bytes-d.ensures,
       )
           (sym (ap (λ (r : Row). record_of (Some r)) (spelled c.args.row.now count)));
       proper = record { relation = omega arith; count = count; columns = search rules };

@@ -7,4 +7,4 @@ returns c =
     let start = c.args.start in
     let bytes = c.args.bytes.now in
     let n : (start + length bytes) - start ≡ length bytes = omega arith in
-    simp (c.copy-from-slice.ensures.after, n) (sym (put_chunk_is start c.args.record.now bytes (omega arith)))
+    simp (c.copy_from_slice.ensures.after, n) (sym (put_chunk_is start c.args.record.now bytes (omega arith)))

@@ -6,4 +6,4 @@ pub returns : goal.returns
 returns c =
     let start = 20 * c.args.place in
     let n : (start + 20) - start ≡ 20 = omega arith in
-    simp (c.copy-from-slice.ensures.after, n, drop-drop 20 start c.args.bytes.now)
+    simp (c.copy_from_slice.ensures.after, n, drop-drop 20 start c.args.bytes.now)

@@ -3,4 +3,4 @@ use Rattle.page.proofs.record.records_in.Goals as goal
 
 pub returns : goal.returns
 unfolding records_of
-returns c = c.as-chunks.ensures.front
+returns c = c.as_chunks.ensures.front

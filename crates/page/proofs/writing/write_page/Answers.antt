@@ -3,7 +3,7 @@ use Rattle.page.proofs.Laid.{laid_more, laid_page, laid_back}
 use Rattle.page.proofs.writing.write_page.Goals as goal
 
 pub loop-place-preserved : goal.loop-place-preserved
-loop-place-preserved c = laid_more c.args.places.now c.loop-place.bytes c.loop-place.place c.write-place.new.bytes (omega arith) c.write-place.auto.bytes c.loop-place.invariant c.write-place.ensures.long c.write-place.ensures.back c.write-place.ensures.bytes
+loop-place-preserved c = laid_more c.args.places.now c.loop-place.bytes c.loop-place.place c.write_place.new.bytes (omega arith) c.write_place.auto.bytes c.loop-place.invariant c.write_place.ensures.long c.write_place.ensures.back c.write_place.ensures.bytes
 
 pub returns : goal.returns
 returns c =

@@ -10,7 +10,7 @@ returns-in-Some c =
     let held = c.in-Some.is in
     let proper = c.encode-record.ensures.proper in
     record {
-      bytes = c.write-record.ensures ∙ ap (written c.args.bytes.now c.args.place) (c.encode-record.ensures.bytes ∙ sym (ap record_of held));
+      bytes = c.write_record.ensures ∙ ap (written c.args.bytes.now c.args.place) (c.encode-record.ensures.bytes ∙ sym (ap record_of held));
       back = ap (λ (h : Option Row). place_of (record_of h)) held ∙ row_back c.in-Some.row proper ∙ sym held;
       long = ap (λ (h : Option Row). length (record_of h)) held ∙ row_long c.in-Some.row proper;
     }

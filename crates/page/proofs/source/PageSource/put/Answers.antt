@@ -12,30 +12,30 @@ use Rattle.page.specs.Sources.{page_model}
 use Rattle.page.proofs.Kept.{page_put, places_put}
 use Rattle.page.proofs.Pages.{length_places}
 use Rattle.page.proofs.source.PageSource.put.Goals as goal
-use Rattle.page.proofs.source.PageSource.put.Goals.{Else-not-zero-from}
+use Rattle.page.proofs.source.PageSource.put.Goals.{Else-not-zero_from}
 
 -- the first two questions were answered Yes
-declared : (c : Else-not-zero-from) → declares (page_model c.args.self.now) c.args.row.now ≡ true
+declared : (c : Else-not-zero_from) → declares (page_model c.args.self.now) c.args.row.now ≡ true
 declared c = lt-ltb 0 _ (let e = c.arity-arity.ensures in omega (arith, c.if-arity-eq0.false))
 
-ends : (c : Else-not-zero-from) → ends_in_zeros (page_model c.args.self.now) c.args.row.now ≡ true
-ends c = ap (λ n. zero_from n c.args.row.now.columns) (sym c.arity-arity.ensures) ∙ sym c.if-not-zero-from.ensures
+ends : (c : Else-not-zero_from) → ends_in_zeros (page_model c.args.self.now) c.args.row.now ≡ true
+ends c = ap (λ n. zero_from n c.args.row.now.columns) (sym c.arity-arity.ensures) ∙ sym c.if-not-zero_from.ensures
 
 pub returns-in-Some : goal.returns-in-Some
 returns-in-Some c =
     let p = c.args.self.now in
     let row = c.args.row.now in
-    let so = (goal.at.returns-in-Some c).Else-not-zero-from in
+    let so = (goal.at.returns-in-Some c).Else-not-zero_from in
     record { fine = c.requires; anchor = refl; says = (refl, already (page_model p) row (declared so) (ends so) (held_at (places_of p.bytes.now) _ row c.in-Some.ensures.1)) }
 
-pub returns-in-default-vacant : goal.returns-in-default-vacant
-returns-in-default-vacant c =
+pub returns-in_default-vacant : goal.returns-in_default-vacant
+returns-in_default-vacant c =
     let p = c.args.self.now in
-    let so = (goal.at.returns-in-default-vacant c).Else-not-zero-from in
-    record { fine = c.requires; anchor = refl; says = (refl, full (page_model p) c.args.row.now (declared so) (ends so) c.in-default.ensures c.in-default-vacant.ensures) }
+    let so = (goal.at.returns-in_default-vacant c).Else-not-zero_from in
+    record { fine = c.requires; anchor = refl; says = (refl, full (page_model p) c.args.row.now (declared so) (ends so) c.in_default.ensures c.in_default-vacant.ensures) }
 
-pub write-record-requires : goal.write-record-requires
-write-record-requires c = omega (arith, c.in-Some-vacant.ensures.0, length_places c.args.self.now.bytes.now)
+pub write_record-requires : goal.write_record-requires
+write_record-requires c = omega (arith, c.in-Some-vacant.ensures.0, length_places c.args.self.now.bytes.now)
 
 pub returns : goal.returns
 returns c =
@@ -43,12 +43,12 @@ returns c =
     let bytes = p.bytes.now in
     let row = c.args.row.now in
     let place = c.in-Some-vacant.place in
-    let so = (goal.at.returns c).Else-not-zero-from in
+    let so = (goal.at.returns c).Else-not-zero_from in
     let (inside, none) = c.in-Some-vacant.ensures in
     let proper = c.encode-record.ensures.proper in
-    let free = c.in-default.ensures in
+    let free = c.in_default.ensures in
     let some_empty = any_here is_empty (places_of bytes) place None inside (ap is_empty none) in
-    let anew : c.write-record.new.bytes ≡ written bytes place (record_of (Some row)) = c.write-record.ensures ∙ ap (written bytes place) c.encode-record.ensures.bytes in
+    let anew : c.write_record.new.bytes ≡ written bytes place (record_of (Some row)) = c.write_record.ensures ∙ ap (written bytes place) c.encode-record.ensures.bytes in
     record {
       fine = subst (λ (bs : List ℕ). IsPage bs p.arities) (sym anew) (page_put bytes p.arities c.requires place inside row proper (declared so) (ends so) free);
       anchor = refl;

@@ -7,15 +7,15 @@ use Rattle.page.proofs.Kept.{page_struck, places_struck}
 use Rattle.page.proofs.Pages.{length_places}
 use Rattle.page.proofs.source.PageSource.strike.Goals as goal
 
-pub write-record-requires : goal.write-record-requires
-write-record-requires c = omega (arith, c.in-Some.ensures.0, length_places c.args.self.now.bytes.now)
+pub write_record-requires : goal.write_record-requires
+write_record-requires c = omega (arith, c.in-Some.ensures.0, length_places c.args.self.now.bytes.now)
 
 pub returns : goal.returns
 returns c =
     let p = c.args.self.now in
     let bytes = p.bytes.now in
     let (inside, stood) = c.in-Some.ensures in
-    let anew : c.write-record.new.bytes ≡ written bytes c.in-Some.place (record_of None) = c.write-record.ensures ∙ ap (written bytes c.in-Some.place) c.empty-blank.ensures in
+    let anew : c.write_record.new.bytes ≡ written bytes c.in-Some.place (record_of None) = c.write_record.ensures ∙ ap (written bytes c.in-Some.place) c.empty-blank.ensures in
     let held = held_at (places_of bytes) c.in-Some.place c.args.row.now stood in
     record {
       fine = subst (λ (bs : List ℕ). IsPage bs p.arities) (sym anew) (page_struck bytes p.arities c.requires c.in-Some.place inside);
