@@ -15,4 +15,4 @@ returns c =
     let whole : eqb (length bytes % 20) 0 ≡ true = ap (λ (n : ℕ). eqb n 0) (sym c.as_chunks.ensures.back_len) ∙ sym c.if-not-is_empty.ensures in
     let short = le-leb (length bytes) 5120 c.if-bytes-gt-LONGEST.false in
     let says : result_err c.check_records.result ≡ check_refusal bytes arities = c.check_records.ensures ∙ ap (record_refusal (arity_in arities)) c.as_chunks.ensures.front ∙ rw (whole, short) in
-    record { says = says; page = λ none. page_passed bytes arities (sym says ∙ none) (λ i. (c.type-inv.bytes i).fits) }
+    record { says = says; page = λ none. page_passed bytes arities (sym says ∙ none) (λ i. (c.type_inv.bytes i).fits) }
