@@ -4,8 +4,8 @@
  * place; a row goes on with its relation in two bytes and four columns in four bytes each, the
  * highest byte first; an empty record is zero after its mark. A page has at most 256 records.
  *
- * Build the library with `rt staticlib page` and link target/staticlib/libpage.a. The check
- * allocates nothing and calls nothing, so no other library is needed.
+ * Build the library with `c/library` and link target/staticlib/libpage.a. The check allocates
+ * nothing and calls nothing, so no other library is needed.
  */
 #ifndef PAGE_H
 #define PAGE_H

@@ -1,4 +1,4 @@
-// The check as C calls it; include/page.h says the same in C.
+// The check as C is told it: the crate page_c hands it out, and include/page.h says the same in C.
 ghost use Rattle.std.specs.Prelude.{◌≡◌};
 ghost use Rattle.page.specs.Checks.{check_refusal};
 ghost use Rattle.page.specs.Faces.{finding_of};
@@ -14,8 +14,7 @@ pub struct Finding {
 }
 
 // Tells C whether the bytes are a page.
-#[unsafe(no_mangle)]
-pub extern "C" fn page_check(bytes: &[u8], arities: &[u8]) -> Finding
+pub fn page_check(bytes: &[u8], arities: &[u8]) -> Finding
     ensures { result ≡ finding_of (check_refusal bytes.now arities.now) }
 {
     match check(bytes, arities) {
