@@ -5,10 +5,10 @@ use Rattle.page_examples.proofs.entering.enter.Goals as goal
 
 pub returns-in-Ok : goal.returns-in-Ok
 returns-in-Ok c =
-    let same = opened_store c.args.bytes.now c.args.arities.now _ (sym c.in-default.ensures.says) c.open-page.ensures.model in
+    let same = opened_store c.args.bytes.now c.args.arities.now _ (sym c.in_default.ensures.says) c.open-page.ensures.model in
     (search rules, ap (λ (s : Store). put_refusal s c.args.row.now) (sym same) ∙ c.in-Ok.ensures.says.granted, search rules)
 
-pub returns-in-Err-put-into : goal.returns-in-Err-put-into
-returns-in-Err-put-into c =
-    let same = opened_store c.args.bytes.now c.args.arities.now _ (sym c.in-default.ensures.says) c.open-page.ensures.model in
-    ((search rules, ap (λ (s : Store). put_refusal s c.args.row.now) (sym same) ∙ c.in-Err-put-into.ensures.says.1), search rules)
+pub returns-in-Err-put_into : goal.returns-in-Err-put_into
+returns-in-Err-put_into c =
+    let same = opened_store c.args.bytes.now c.args.arities.now _ (sym c.in_default.ensures.says) c.open-page.ensures.model in
+    ((search rules, ap (λ (s : Store). put_refusal s c.args.row.now) (sym same) ∙ c.in-Err-put_into.ensures.says.1), search rules)
