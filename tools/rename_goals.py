@@ -37,9 +37,10 @@ def turn(crate):
     root = f"crates/{crate}/proofs"
     for folder, _, files in os.walk(root):
         key = f"Rattle-{crate}-proofs." + os.path.relpath(folder, root).replace("/", ".") + ".Lts"
-        if key not in made:
+        found = [made[k] for k in made if k == key or k.startswith(key + "-")]
+        if not found:
             continue
-        now = {s for s in strings(made[key]) if re.fullmatch(r"[\w'+-]+", s)}
+        now = {s for s in strings(found) if re.fullmatch(r"[\w'+-]+", s)}
         now |= {p + "-" + s for s in list(now) for p in ("After", "In", "Then", "Else", "Start")}
         now |= {"invariant_of-self", "invariant_of-result", "in_default"}
         alike = collections.defaultdict(set)
@@ -50,12 +51,16 @@ def turn(crate):
             with open(path, encoding="utf-8") as f:
                 text = f.read()
 
-            def new(m):
-                word = m.group(0)
+            def part(word):
                 if word in now:
                     return word
                 fit = alike.get(word.replace("_", "-"), set())
                 return next(iter(fit)) if len(fit) == 1 else word
+
+            def new(m):
+                # the ways into a join are named by their parts, with + and -via- between
+                word = part(m.group(0))
+                return "-via-".join("+".join(map(part, w.split("+"))) for w in word.split("-via-"))
 
             turned = NAME.sub(new, text)
             if turned != text:

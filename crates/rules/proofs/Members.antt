@@ -7,6 +7,7 @@ use Rattle.std.proofs.lemmas.Bool.{and_parts, and_from}
 use Rattle.store.specs.Rows.{same_row}
 use Rattle.store.specs.declared.row.Row.{Row}
 use Rattle.store.proofs.Tests.{any_pick, any_put, same_tests}
+pub use Rattle.store.proofs.HeldRows.{same_row_sym}
 use Rattle.store.proofs.Alike.{same_row_is, same_row_refl}
 use Rattle.rules.specs.Sets.{Rows, among}
 

@@ -1,5 +1,5 @@
 -- The theorems: what is held and what conflicts when a row or a rule comes or goes, and what readings there are.
-use Rattle.std.specs.Prelude.{◌≡◌, ℕ, ◌+◌, ◌<◌, ◌≤◌, Bool, true, false, not, ◌&&◌, ◌||◌, ltb, List, [], ◌∷◌, ◌++◌, map, length, set, Some, None, Decides, filter, Option, ◌==◌, ◌≢◌, nat_eq, nat_le, nat_lt, slice_index_or, slice_set}
+use Rattle.std.specs.Prelude.{◌≡◌, ℕ, ◌+◌, ◌<◌, ◌≤◌, Bool, true, false, not, ◌&&◌, ◌||◌, ltb, List, [], ◌∷◌, ◌++◌, map, length, Some, None, Decides, filter, Option, ◌==◌, ◌≢◌, nat_eq, nat_le, nat_lt, slice_index_or, slice_set}
 use mathlib.Core.List.{Memᴰ}
 use Rattle.store.specs.Lists.{any, all}
 use Rattle.store.specs.Places.{OnceIn}

@@ -3,7 +3,8 @@ use Rattle.std.specs.Prelude.{◌≡◌, ℕ, zero, suc, Bool, true, false, not,
 use mathlib.Core.List.{Memᴰ}
 use Rattle.std.specs.List.{flat_map}
 use Rattle.store.specs.Lists.{any, all, same_numbers}
-use Rattle.store.specs.Held.{given}
+-- what a list of places holds is said where places are; the names stand here too
+pub use Rattle.store.specs.Held.{given, rows_of, empties}
 use Rattle.store.specs.declared.row.Row.{Row}
 use Rattle.rules.specs.Sets.{among, distinct}
 use Rattle.rules.specs.Rules.{Denial, conflicts}

@@ -1,5 +1,5 @@
 -- What a reading is; the literature says repair.
-use Rattle.std.specs.Prelude.{Bool, true, false, not, ◌&&◌, ◌||◌, List, [], ◌∷◌}
+use Rattle.std.specs.Prelude.{Bool, not, ◌&&◌, ◌||◌, List}
 use Rattle.store.specs.Lists.{any, all}
 use Rattle.store.specs.declared.row.Row.{Row}
 use Rattle.rules.specs.Sets.{Rows, with}

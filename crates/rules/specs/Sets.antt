@@ -1,5 +1,5 @@
 -- Sets of rows, and lists without repetition.
-use Rattle.std.specs.Prelude.{Bool, true, false, not, ◌&&◌, ◌||◌, List, [], ◌∷◌}
+use Rattle.std.specs.Prelude.{Bool, true, not, ◌&&◌, ◌||◌, List, [], ◌∷◌}
 use Rattle.store.specs.Lists.{any, all}
 use Rattle.store.specs.Rows.{same_row}
 use Rattle.store.specs.declared.row.Row.{Row}

@@ -10,17 +10,17 @@ use Rattle.rules.proofs.Completing.{one_further, half_way, over}
 use Rattle.rules.proofs.Rounds.{round_ends}
 use Rattle.rules.proofs.upkeep.add_each.Goals as goal
 
-pub returns-in-err-add-share : goal.returns-in-err-add-share
-returns-in-err-add-share g c =
+pub returns-in_err-add_share : goal.returns-in_err-add_share
+returns-in_err-add_share g c =
     let table = (g.S.Source.model c.args.source.now).places in
     let once = (g.S.Source.keeps c.args.source.now c.requires.fine).once in
     let rules = c.args.rules.now in
     let rule = c.index-rules-number.result in
     let k = c.loop-number.number in
     let at = get_or-map denial rules k rule (denial rule) (omega arith) ∙ ap denial (sym c.index-rules-number.is) in
-    let p = err_from_is_err_and c.from-residual.result c.from-residual.ensures.1 in
-    let (grown, full, (d, found)) = c.in-err-add-share.ensures in
-    let up = c.add-share.new.list.rising in
+    let p = err_from_is_err_and c.from_residual.result c.from_residual.ensures.1 in
+    let (grown, full, (d, found)) = c.in_err-add_share.ensures in
+    let up = c.add_share.new.list.rising in
     rw p.1 (
       (k, half_way table once (map denial rules) (away_from c.args.place) k (omega (arith, length-map rules denial)) (denial rule) at c.loop-number.invariant grown up full d found),
       over table once (map denial rules) (away_from c.args.place) k (omega (arith, length-map rules denial)) (denial rule) at c.loop-number.invariant grown up full d found,
@@ -35,8 +35,8 @@ loop-number-preserved g c =
     let k = c.loop-number.number in
     let p = c.args.place in
     let at = get_or-map denial rules k rule (denial rule) (omega arith) ∙ ap denial (sym c.index-rules-number.is) in
-    let (grown, all) = c.in-ok-add-share.ensures in
-    one_further table once (map denial rules) (away_from p) k (omega (arith, length-map rules denial)) (denial rule) at c.loop-number.invariant grown c.add-share.new.list.rising
+    let (grown, all) = c.in_ok-add_share.ensures in
+    one_further table once (map denial rules) (away_from p) k (omega (arith, length-map rules denial)) (denial rule) at c.loop-number.invariant grown c.add_share.new.list.rising
     (λ chosen places ch same fresh. all chosen ch (same p ∙ not-false (any (eqb p) places) fresh))
 
 pub returns : goal.returns

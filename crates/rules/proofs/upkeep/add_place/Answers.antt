@@ -8,23 +8,23 @@ use Rattle.rules.proofs.Emptied.{emptied, others_alike, empty_already}
 use Rattle.rules.proofs.OnePlace.{put_starts, put_undone}
 use Rattle.rules.proofs.upkeep.add_place.Goals as goal
 
-pub returns-in-default : goal.returns-in-default
-returns-in-default g c =
+pub returns-in_default : goal.returns-in_default
+returns-in_default g c =
     let table = (g.S.Source.model c.args.source.now).places in
     let once = (g.S.Source.keeps c.args.source.now c.requires.fine).once in
     let rules = map denial c.args.rules.now in
     let list = c.args.list.now in
-    let exact = subst (λ t. Lists (is_conflict t rules) (listing list)) (empty_already table c.args.place (sym c.in-default.ensures)) c.requires.exact in
+    let exact = subst (λ t. Lists (is_conflict t rules) (listing list)) (empty_already table c.args.place (sym c.in_default.ensures)) c.requires.exact in
     (exact, fits_list table once rules list exact)
 
-pub overflow-cast-place : goal.overflow-cast-place
-overflow-cast-place g c =
+pub overflow_cast-place : goal.overflow_cast-place
+overflow_cast-place g c =
     let kept = g.S.Source.keeps c.args.source.now c.requires.fine in
     let near = inside (g.S.Source.model c.args.source.now).places c.args.place c.in-Some.row (sym c.in-Some.ensures) in
     omega (arith, kept.few, near)
 
-pub add-each-added-requires : goal.add-each-added-requires
-add-each-added-requires g c =
+pub add_each-added-requires : goal.add_each-added-requires
+add_each-added-requires g c =
     let table = (g.S.Source.model c.args.source.now).places in
     let p = c.args.place in
     record {
@@ -41,12 +41,12 @@ returns-in-Err g c =
     let p = c.args.place in
     let less = is_conflict (set table p None) rules in
     let ((k, half), many) = c.in-Err.ensures in
-    let back = subst (Lists less) (sym c.drop-place.ensures) (put_undone (set table p None) table p (others_alike table p) (emptied table p) rules k (listing c.add-each-added.new.list) half) in
-    rw c.in-Err.is (lists_same less (listing c.drop-place.new.self) (listing c.args.list.now) c.drop-place.new.self.rising c.args.list.now.rising back c.requires.exact, many)
+    let back = subst (Lists less) (sym c.drop_place.ensures) (put_undone (set table p None) table p (others_alike table p) (emptied table p) rules k (listing c.add_each-added.new.list) half) in
+    rw c.in-Err.is (lists_same less (listing c.drop_place.new.self) (listing c.args.list.now) c.drop_place.new.self.rising c.args.list.now.rising back c.requires.exact, many)
 
-pub returns-in-default-added : goal.returns-in-default-added
-returns-in-default-added g c =
+pub returns-in_default-added : goal.returns-in_default-added
+returns-in_default-added g c =
     let table = (g.S.Source.model c.args.source.now).places in
     let once = (g.S.Source.keeps c.args.source.now c.requires.fine).once in
-    let exact = c.in-default-added.ensures in
-    rw c.in-default-added.is (exact, fits_list table once (map denial c.args.rules.now) c.add-each-added.new.list exact)
+    let exact = c.in_default-added.ensures in
+    rw c.in_default-added.is (exact, fits_list table once (map denial c.args.rules.now) c.add_each-added.new.list exact)

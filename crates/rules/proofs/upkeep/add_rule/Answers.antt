@@ -14,21 +14,21 @@ returns-in-Err g c =
     let rules = map denial c.args.rules.now in
     let rule = denial c.args.rule.now in
     let last = sym (length-map c.args.rules.now denial) in
-    let up = c.find-conflicts-added.new.list.rising in
+    let up = c.find_conflicts-added.new.list.rising in
     let (grown, full, (d, found)) = c.in-Err.ensures in
-    let back = subst (Lists (is_conflict table rules)) (sym c.drop-rule.ensures) (rule_back table once rules rule _ last c.requires.exact grown up full d found) in
+    let back = subst (Lists (is_conflict table rules)) (sym c.drop_rule.ensures) (rule_back table once rules rule _ last c.requires.exact grown up full d found) in
     rw c.in-Err.is (
-      lists_same (is_conflict table rules) (listing c.drop-rule.new.self) (listing c.args.list.now) c.drop-rule.new.self.rising c.args.list.now.rising back c.requires.exact,
+      lists_same (is_conflict table rules) (listing c.drop_rule.new.self) (listing c.args.list.now) c.drop_rule.new.self.rising c.args.list.now.rising back c.requires.exact,
       rule_over table once rules rule _ last c.requires.exact grown up full d found,
     )
 
-pub returns-in-default : goal.returns-in-default
-returns-in-default g c =
+pub returns-in_default : goal.returns-in_default
+returns-in_default g c =
     let table = (g.S.Source.model c.args.source.now).places in
     let once = (g.S.Source.keeps c.args.source.now c.requires.fine).once in
     let rules = map denial c.args.rules.now in
     let rule = denial c.args.rule.now in
-    let after = c.find-conflicts-added.new.list in
-    let (grown, all) = c.in-default.ensures in
+    let after = c.find_conflicts-added.new.list in
+    let (grown, all) = c.in_default.ensures in
     let exact = rule_added table once rules rule _ (sym (length-map c.args.rules.now denial)) c.requires.exact grown after.rising (λ chosen ch. all chosen ch refl) in
-    rw c.in-default.is (exact, fits_list table once (rules ++ rule ∷ []) after exact)
+    rw c.in_default.is (exact, fits_list table once (rules ++ rule ∷ []) after exact)

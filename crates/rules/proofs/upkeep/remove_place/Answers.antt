@@ -8,6 +8,6 @@ pub returns : goal.returns
 returns c =
     let p = c.args.emptied in
     record {
-      list = c.drop-place.ensures;
-      exact = λ table rules ls. subst (Lists (is_conflict (set table p None) rules)) (sym c.drop-place.ensures) (strikes (set table p None) table p (others_alike table p) (emptied table p) rules _ ls);
+      list = c.drop_place.ensures;
+      exact = λ table rules ls. subst (Lists (is_conflict (set table p None) rules)) (sym c.drop_place.ensures) (strikes (set table p None) table p (others_alike table p) (emptied table p) rules _ ls);
     }

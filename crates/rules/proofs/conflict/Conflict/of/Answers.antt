@@ -2,7 +2,7 @@ use Rattle.std.proofs.Common.{◌<◌, length, take, ap, ◌∙◌, arith}
 use Rattle.std.proofs.lemmas.List.{take_more, take_all, length-take}
 use Rattle.rules.specs.Sorting.{sorted_more, sorted_full, sorted_made}
 use Rattle.rules.proofs.conflict.Conflict.of.Goals as goal
-use Rattle.rules.proofs.conflict.Conflict.of.Goals.{in-Ok, in-default}
+use Rattle.rules.proofs.conflict.Conflict.of.Goals.{in-Ok, in_default}
 
 pub loop-place-preserved : goal.loop-place-preserved
 loop-place-preserved c =
@@ -13,7 +13,7 @@ loop-place-preserved c =
     let (same, so) = c.loop-place.invariant in
     elim c.match-enter.branch [
       | in-Ok w ↦ (same, sorted_more so _ three c.enter.auto.items w.in-Ok.ensures (take_more items i 0 (omega arith)) w.size-is)
-      | in-default w ↦ absurd (sorted_full so _ three w.in-default.ensures)
+      | in_default w ↦ absurd (sorted_full so _ three w.in_default.ensures)
     ]
 
 pub returns : goal.returns

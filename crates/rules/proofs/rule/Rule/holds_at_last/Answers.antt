@@ -7,20 +7,20 @@ use Rattle.rules.specs.Comparisons.{within}
 use Rattle.rules.proofs.Naming.{each_within}
 use Rattle.rules.proofs.rule.Rule.holds_at_last.Goals as goal
 
-pub holds-if-last-requires : goal.holds-if-last-requires
-holds-if-last-requires c =
+pub holds_if_last-requires : goal.holds_if_last-requires
+holds_if_last-requires c =
     let r = c.args.self.now in
     each_within r.atom_count c.comparisons-comparison-items.result.now r.few (ap (all (within r.atom_count)) c.loop-comparison.invariant.0 ∙ r.named) r.some c.loop-comparison.comparison-index _ (omega arith)
 
-pub returns-then-not-holds-if-last : goal.returns-then-not-holds-if-last
-returns-then-not-holds-if-last c =
+pub returns-then-not-holds_if_last : goal.returns-then-not-holds_if_last
+returns-then-not-holds_if_last c =
     let test = holds_at_last c.args.rows.now in
-    sym (sym (ap (all test) c.loop-comparison.invariant.0) ∙ sym c.loop-comparison.invariant.1 ∙ all_stops test _ c.loop-comparison.comparison-index _ (omega arith) (sym c.if-not-holds-if-last.ensures))
+    sym (sym (ap (all test) c.loop-comparison.invariant.0) ∙ sym c.loop-comparison.invariant.1 ∙ all_stops test _ c.loop-comparison.comparison-index _ (omega arith) (sym c.if-not-holds_if_last.ensures))
 
 pub loop-comparison-preserved : goal.loop-comparison-preserved
 loop-comparison-preserved c =
     let test = holds_at_last c.args.rows.now in
-    (c.loop-comparison.invariant.0, all_past test _ c.loop-comparison.comparison-index _ (omega arith) (sym c.if-not-holds-if-last.ensures) ∙ c.loop-comparison.invariant.1)
+    (c.loop-comparison.invariant.0, all_past test _ c.loop-comparison.comparison-index _ (omega arith) (sym c.if-not-holds_if_last.ensures) ∙ c.loop-comparison.invariant.1)
 
 pub returns : goal.returns
 returns c =
