@@ -14,4 +14,4 @@ returns-in-None-word c =
 pub loop-part-preserved : goal.loop-part-preserved
 loop-part-preserved c =
     let rest = all has_form (texts (to_come c.next.new.self)) in
-    sym (ap (λ ps. all has_form (texts ps)) c.in-Some.ensures.steps ∙ ap (λ b. b && rest) (has_form_lem (shown c.in-Some.part) (read c.in-default.field-0) c.in-default.ensures)) ∙ c.loop-part.invariant
+    sym (ap (λ ps. all has_form (texts ps)) c.in-Some.ensures.steps ∙ ap (λ b. b && rest) (has_form_lem (shown c.in-Some.part) (read c.in_default.field-0) c.in_default.ensures)) ∙ c.loop-part.invariant
