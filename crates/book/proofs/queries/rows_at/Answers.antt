@@ -3,7 +3,7 @@ use Rattle.std.proofs.lemmas.List.{take_all}
 use Rattle.rules.specs.Listing.{rows_at}
 use Rattle.book.proofs.Reading.{read_row, read_none}
 use Rattle.book.proofs.queries.rows_at.Goals as goal
-use Rattle.book.proofs.queries.rows_at.Goals.{in-Some, in-default}
+use Rattle.book.proofs.queries.rows_at.Goals.{in-Some, in_default}
 
 pub loop-place-preserved : goal.loop-place-preserved
 loop-place-preserved g c =
@@ -16,7 +16,7 @@ loop-place-preserved g c =
     let count = c.loop-place.count in
     elim c.match-read.branch [
       | in-Some w ↦ rw (w.rows-is, w.count-is) (length-set rows count _ ∙ three, omega arith, read_row table places i lt rows count so _ (sym w.in-Some.is ∙ c.read.ensures) (omega arith))
-      | in-default w ↦ rw (w.rows-is, w.count-is) (three, omega arith, read_none table places i lt rows count so (sym w.in-default.is ∙ c.read.ensures))
+      | in_default w ↦ rw (w.rows-is, w.count-is) (three, omega arith, read_none table places i lt rows count so (sym w.in_default.is ∙ c.read.ensures))
     ]
 
 pub returns : goal.returns

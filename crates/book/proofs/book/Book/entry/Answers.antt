@@ -12,59 +12,59 @@ use Rattle.book.proofs.Lives.{entry_lives}
 use Rattle.book.proofs.Upheld.{before_put, same_store, undone, many_with}
 use Rattle.book.proofs.book.Book.entry.Goals as goal
 
-pub returns-in-err-place : goal.returns-in-err-place
-returns-in-err-place g c =
+pub returns-in_err-place : goal.returns-in_err-place
+returns-in_err-place g c =
     let b = c.args.self.now in
     let rules = rules_of b.log in
     let s = g.S.Source.model b.source in
     let s' = g.S.Source.model c.put.new.self in
     let row = c.args.row.now in
-    let no_row = c.in-err-place.ensures in
-    let p = err_from_is_err_and c.from-residual.result c.from-residual.ensures.1 in
-    let says : EntrySays s s' rules row c.from-residual.result = subst (EntrySays s s' rules row) (sym (p.1 ∙ ap Err p.2)) no_row.says in
+    let no_row = c.in_err-place.ensures in
+    let p = err_from_is_err_and c.from_residual.result c.from_residual.ensures.1 in
+    let says : EntrySays s s' rules row c.from_residual.result = subst (EntrySays s s' rules row) (sym (p.1 ∙ ap Err p.2)) no_row.says in
     record {
       sound = record { ready = no_row.fine; exact = same_store rules (listing b.log.conflicts) s s' no_row.says.0 c.requires.exact };
       anchor = no_row.anchor;
       rules = refl;
       says = says;
-      law = entry_lives s s' rules row c.from-residual.result says;
+      law = entry_lives s s' rules row c.from_residual.result says;
     }
 
-pub add-place-requires : goal.add-place-requires
-add-place-requires g c =
+pub add_place-requires : goal.add_place-requires
+add_place-requires g c =
     let b = c.args.self.now in
-    let put = c.in-ok-place.ensures in
+    let put = c.in_ok-place.ensures in
     record { fine = put.fine; exact = before_put (rules_of b.log) (listing b.log.conflicts) (g.S.Source.model b.source) (g.S.Source.model c.put.new.self) c.args.row.now _ put.says c.requires.exact }
 
 pub returns-in-Ok : goal.returns-in-Ok
 returns-in-Ok g c =
     let b = c.args.self.now in
     let rules = rules_of b.log in
-    let log = c.add-place.new.self in
+    let log = c.add_place.new.self in
     let s = g.S.Source.model b.source in
     let s' = g.S.Source.model c.put.new.self in
     let row = c.args.row.now in
-    let put = c.in-ok-place.ensures in
+    let put = c.in_ok-place.ensures in
     let added = c.in-Ok.ensures in
-    let says : EntrySays s s' rules row (Ok c.in-ok-place.place) = (put.says, added.says.1) in
+    let says : EntrySays s s' rules row (Ok c.in_ok-place.place) = (put.says, added.says.1) in
     record {
       sound = record { ready = put.fine; exact = subst (λ (rs : List Denial). Lists (is_conflict s'.places rs) (listing log.conflicts)) (sym added.rules) added.says.0 };
       anchor = put.anchor;
       rules = added.rules;
       says = says;
-      law = subst (λ (rs : List Denial). LivesOn s rules s' rs (entering row) taken) (sym added.rules) (entry_lives s s' rules row (Ok c.in-ok-place.place) says);
+      law = subst (λ (rs : List Denial). LivesOn s rules s' rs (entering row) taken) (sym added.rules) (entry_lives s s' rules row (Ok c.in_ok-place.place) says);
     }
 
 pub returns-in-Err : goal.returns-in-Err
 returns-in-Err g c =
     let b = c.args.self.now in
     let rules = rules_of b.log in
-    let log = c.add-place.new.self in
+    let log = c.add_place.new.self in
     let s = g.S.Source.model b.source in
     let s' = g.S.Source.model c.put.new.self in
     let s'' = g.S.Source.model c.strike.new.self in
     let row = c.args.row.now in
-    let put = c.in-ok-place.ensures in
+    let put = c.in_ok-place.ensures in
     let full = c.in-Err.ensures in
     let struck = c.strike.ensures in
     let back : s'' ≡ s = undone s s' s'' row _ put.says (g.S.Source.keeps c.put.new.self put.fine).once c.strike.result struck.says in

@@ -5,8 +5,8 @@ use Rattle.rules.specs.Listing.{Lists, is_conflict}
 use Rattle.rules.specs.Rules.{denial}
 use Rattle.book.proofs.log.Log.add_place.Goals as goal
 
-pub add-place-requires : goal.add-place-requires
-add-place-requires g c =
+pub add_place-requires : goal.add_place-requires
+add_place-requires g c =
     let log = c.args.self.now in
     let n = log.rule_count in
     let whole : n - 0 ≡ n = omega arith in

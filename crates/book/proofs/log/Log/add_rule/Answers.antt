@@ -12,4 +12,4 @@ returns g c =
     let whole : n - 0 ≡ n = omega arith in
     let more = one_rule_more log.rules n c.args.rule (omega (arith, log.sixteen, c.requires.room)) in
     let same = ap (λ (k : ℕ). map denial (take k log.rules) ++ (denial c.args.rule ∷ [])) whole ∙ sym more in
-    (more, subst (λ (rules : List Denial). Lists (is_conflict (g.S.Source.model c.args.source.now).places rules) (listing c.add-rule.new.list)) same c.in-ok-add-rule.ensures.0)
+    (more, subst (λ (rules : List Denial). Lists (is_conflict (g.S.Source.model c.args.source.now).places rules) (listing c.add_rule.new.list)) same c.in_ok-add_rule.ensures.0)
