@@ -4,7 +4,7 @@ ghost use Rattle.answers.specs.Refusals.{notice_of};
 
 use fault::Notice;
 
-#[derive(Clone, Copy)]
+#[derive(Clone, Copy, Debug)]
 pub enum Refusal {
     // The leaf at this node, the first such, has not the arity that the source tells.
     Arity(usize),

@@ -5,7 +5,7 @@ ghost use Rattle.bench.specs.declared.trouble.Trouble.{Trouble};
 use book::Refusal;
 use std::io;
 
-#[derive(Drop)]
+#[derive(Debug, Drop)]
 pub enum Trouble {
     Outside(io::Error),
     // A row or a rule was refused, so the figures would say nothing.

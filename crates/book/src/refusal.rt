@@ -5,7 +5,7 @@ ghost use Rattle.book.specs.declared.refusal.Refusal.{Refusal};
 
 use fault::Notice;
 
-#[derive(Clone, Copy)]
+#[derive(Clone, Copy, Debug)]
 pub enum Refusal {
     // The source refuses the row.
     Source(store::Refusal),

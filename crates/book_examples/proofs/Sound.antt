@@ -10,5 +10,5 @@ use Rattle.book_examples.specs.declared.desk.Desk.{Desk}
 pub is_sound : (d : Desk) → Sound table_model (λ _. Unit {0}) d.book
 is_sound d = record { ready = tt; exact = exact_of (table_model d.book.source) d.book.log d.right d.full d.once }
 
-pub carried : (b : Book Table) → Sound table_model (λ _. Unit {0}) b → Right (table_model b.source) b.log × (Full (table_model b.source) b.log × (Once b.log × Unit {0}))
-carried b sound = (right_of (table_model b.source) b.log sound.exact, (full_of (table_model b.source) b.log sound.exact, (sound.exact.once, tt)))
+pub carried : (b : Book Table) → Sound table_model (λ _. Unit {0}) b → Right (table_model b.source) b.log × Full (table_model b.source) b.log × Once b.log
+carried b sound = (right_of (table_model b.source) b.log sound.exact, full_of (table_model b.source) b.log sound.exact, sound.exact.once)

@@ -4,7 +4,7 @@ ghost use Rattle.rules.specs.Refusals.{notice_of};
 
 use fault::Notice;
 
-#[derive(Clone, Copy)]
+#[derive(Clone, Copy, Debug)]
 pub enum Refusal {
     // It has no atom or more than three, or more than six comparisons.
     Malformed,

@@ -4,7 +4,7 @@ ghost use Rattle.store.specs.Refusals.{notice_of};
 
 use fault::Notice;
 
-#[derive(Clone, Copy)]
+#[derive(Clone, Copy, Debug)]
 pub enum Refusal {
     // The row's relation is not declared.
     Undeclared,

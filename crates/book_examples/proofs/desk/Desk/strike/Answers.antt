@@ -4,5 +4,5 @@ use Rattle.book_examples.proofs.desk.Desk.strike.Goals as goal
 pub strike-requires : goal.strike-requires
 strike-requires c = is_sound c.args.self.now
 
-pub invariant-of-self : goal.invariant-of-self
-invariant-of-self c = carried c.strike.new.self c.strike.ensures.sound
+pub invariant_of-self : goal.invariant_of-self
+invariant_of-self c = let (right, full, once) = carried c.strike.new.self c.strike.ensures.sound in record { right = right; full = full; once = once }

@@ -6,8 +6,8 @@ use Rattle.script.proofs.counter.Counter.call.Goals as goal
 pub step-requires : goal.step-requires
 step-requires c = is_sound c.args.self.now
 
-pub invariant-of-self : goal.invariant-of-self
-invariant-of-self c =
+pub invariant_of-self : goal.invariant_of-self
+invariant_of-self c =
     let b = c.step.new.self in
     let exact = c.step.ensures.sound.exact in
-    (right_of (table_model b.source) b.log exact, (full_of (table_model b.source) b.log exact, (exact.once, tt)))
+    record { right = right_of (table_model b.source) b.log exact; full = full_of (table_model b.source) b.log exact; once = exact.once }
