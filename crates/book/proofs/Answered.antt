@@ -1,5 +1,5 @@
 -- The plain book's questions are answered as the source's and the rule's are.
-use Rattle.std.proofs.Common.{◌≡◌, ℕ, Bool, true, false, not, ltb, List, length, Some, None, Option, sym, refl, ap, ◌∙◌, subst}
+use Rattle.std.proofs.Common.{◌≡◌, ℕ, Bool, true, false, not, ltb, List, Some, None, Option, sym, refl, ap, ◌∙◌, subst}
 use Rattle.std.specs.Option.{option_map}
 use Rattle.fault.specs.Questions.{ask}
 use Rattle.store.specs.Refusals.{notice_of as sourceNotice}

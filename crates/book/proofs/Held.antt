@@ -1,12 +1,12 @@
 -- The plain book and the source hold the same after a call that is done.
-use Rattle.std.proofs.Common.{◌≡◌, ℕ, ◌+◌, ◌-◌, Bool, true, false, not, ◌&&◌, ◌||◌, List, [], ◌∷◌, ◌++◌, Some, None, sym, refl, ap, ◌∙◌, subst, arith}
+use Rattle.std.proofs.Common.{◌≡◌, ℕ, not, ◌&&◌, ◌||◌, List, [], ◌∷◌, ◌++◌, sym, ap, ◌∙◌, subst, arith}
 use Rattle.store.specs.Places.{OnceIn}
 use Rattle.store.specs.Rows.{same_row}
 use Rattle.store.specs.Store.{Store, Put, Struck}
 use Rattle.store.specs.declared.row.Row.{Row}
 use Rattle.store.specs.Held.{rows_of, empties}
 use Rattle.rules.specs.Rules.{Denial, AtMost}
-use Rattle.rules.specs.Sets.{among, with}
+use Rattle.rules.specs.Sets.{among}
 use Rattle.rules.proofs.Holding.{put_rows, struck_rows, put_empties, struck_empties}
 use Rattle.rules.proofs.Members.{among_kept}
 use Rattle.rules.proofs.SameHeld.{same_members}

@@ -1,18 +1,16 @@
 -- Every call goes on with a lawful life.
-use Rattle.std.proofs.Common.{◌≡◌, ℕ, true, false, ltb, ◌⊎◌, List, [], ◌∷◌, ◌++◌, length, Some, None, Ok, Err, Option, Result, sym, refl, ap, ◌∙◌, subst, inl, inr}
+use Rattle.std.proofs.Common.{◌≡◌, ℕ, true, ltb, List, [], length, Ok, Err, Result, sym, refl, ap, ◌∙◌, subst, inl, inr}
 use Rattle.std.specs.Option.{option_map}
 use Rattle.fault.specs.Questions.{ask}
 use Rattle.store.specs.Places.{OnceIn}
-use Rattle.store.specs.Store.{Store, put_refusal, strike_refusal}
+use Rattle.store.specs.Store.{Store}
 use Rattle.store.specs.declared.row.Row.{Row}
-use Rattle.store.specs.declared.refusal.Refusal.{Refusal as SourceRefusal}
 use Rattle.rules.specs.Refusals.{rule_refusal, notice_of as ruleNotice}
 use Rattle.rules.specs.Rules.{Denial, AtMost}
 use Rattle.rules.specs.declared.refusal.Refusal.{Refusal as RuleRefusal}
-use Rattle.book.specs.Plain.{Plain, Asked, Told, entering, striking, ruling, taken, ruled, refused, most, entry_no, strike_no, rule_no, with_row, without_row, with_rule, If, Steps}
-use Rattle.book.specs.Runs.{opened, History, opening, more, Leads, Agrees, Life, LivesOn}
+use Rattle.book.specs.Plain.{Plain, Asked, Told, entering, striking, ruling, taken, ruled, refused, most, entry_no, strike_no, rule_no, with_row, without_row, with_rule, Steps}
+use Rattle.book.specs.Runs.{opened, History, opening, more, Agrees, Life, LivesOn}
 use Rattle.book.specs.Calls.{EntrySays, StrikingSays, RuleSays, taken_by, ruled_by}
-use Rattle.book.specs.Refusals.{notice_of}
 use Rattle.book.specs.declared.refusal.Refusal.{Refusal}
 use Rattle.book.specs.declared.refusal.Refusal.TheVariants.{Source, EntryConflicts, TooManyRules, Rule, RuleConflicts, NoSuchConflict, Unanswered}
 use Rattle.book.proofs.Answered.{number_of, entry_asks, strike_asks, goes_on, stops}

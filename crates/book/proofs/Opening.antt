@@ -1,6 +1,5 @@
 -- With no rules there are no conflicts.
-use Rattle.std.proofs.Common.{◌≡◌, Bool, true, false, ◌&&◌, List, [], ◌∷◌, get_or, Some, None, Option, sym, refl, ap, ◌∙◌, subst}
-use mathlib.Core.List.{Memᴰ}
+use Rattle.std.proofs.Common.{◌≡◌, true, false, ◌&&◌, List, [], get_or, None, Option, sym, refl, subst}
 use Rattle.std.proofs.lemmas.Bool.{both_ways, and_parts}
 use Rattle.store.specs.Store.{Store}
 use Rattle.store.specs.declared.row.Row.{Row}

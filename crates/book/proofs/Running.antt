@@ -1,10 +1,10 @@
 -- A run that goes one call further.
-use Rattle.std.proofs.Common.{◌≡◌, ℕ, List, [], ◌∷◌, ◌++◌, sym, refl, ap, ◌∙◌, subst, append_assoc, append-nil}
+use Rattle.std.proofs.Common.{List, [], ◌∷◌, ◌++◌, sym, refl, ap, subst, append_assoc, append-nil}
 use Rattle.store.specs.Store.{Store}
 use Rattle.rules.specs.Rules.{Denial}
 use Rattle.book.specs.Outcomes.{Ran, RunSays}
 use Rattle.book.specs.Plain.{Asked, Told}
-use Rattle.book.specs.Runs.{History, more, Life, LivesOn}
+use Rattle.book.specs.Runs.{History, more, LivesOn}
 
 ran_more : (h : History) (askeds : List Asked) (tolds : List Told) (after : History) (asked : Asked) (told : Told) → Ran h askeds tolds after → Ran h (askeds ++ (asked ∷ [])) (tolds ++ (told ∷ [])) (more after asked told)
 ran_more h [] [] after asked told e = ap (λ x. more x asked told) e

@@ -1,13 +1,13 @@
 -- A list that is exact is so by tests, and the other way round.
-use Rattle.std.proofs.Common.{◌≡◌, ℕ, Bool, true, false, ◌&&◌, eqb, List, [], ◌∷◌, sym, refl, ap, ◌∙◌, subst}
+use Rattle.std.proofs.Common.{◌≡◌, Bool, true, ◌&&◌, eqb, List, sym, refl, subst}
 use mathlib.Core.List.{Memᴰ}
 use Rattle.std.proofs.lemmas.Bool.{and_parts, and_from, eqb-true, eq-eqb}
 use Rattle.store.proofs.Tests.{any_pick, any_put}
 use Rattle.store.proofs.Alike.{same_numbers_is, same_numbers_refl}
 use Rattle.store.specs.Store.{Store}
 use Rattle.rules.specs.Entries.{listing}
-use Rattle.rules.specs.Listing.{Listed, Lists, is_conflict, same_places}
-use Rattle.book.specs.Books.{rules_of, Exact, has_listed, Right, Full, Once}
+use Rattle.rules.specs.Listing.{Listed, same_places}
+use Rattle.book.specs.Books.{Exact, has_listed, Right, Full, Once}
 use Rattle.book.specs.declared.log.Log.{Log}
 
 abbrev alike : Listed → Listed → Bool

@@ -1,5 +1,5 @@
 -- A book: its rules, and that its list has each conflict once and nothing more.
-use Rattle.std.specs.Prelude.{◌≡◌, ℕ, Bool, true, ◌&&◌, List, [], ◌∷◌, ◌++◌, map, take, Ok, Err, Result, ◌==◌}
+use Rattle.std.specs.Prelude.{◌≡◌, Bool, true, ◌&&◌, List, [], ◌∷◌, ◌++◌, map, take, Ok, Err, Result, ◌==◌}
 use Rattle.ordered.specs.declared.entry.Full.{Full as TooFull}
 use Rattle.store.specs.Lists.{any}
 use Rattle.store.specs.Store.{Store}

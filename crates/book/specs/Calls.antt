@@ -1,5 +1,5 @@
 -- What the calls of a book promise of its source and its rules.
-use Rattle.std.specs.Prelude.{◌≡◌, ℕ, true, false, List, [], ◌∷◌, ◌++◌, length, Some, None, Ok, Err, Option, Result, nat_lt}
+use Rattle.std.specs.Prelude.{◌≡◌, ℕ, true, false, List, [], ◌∷◌, ◌++◌, length, Some, None, Ok, Err, Result, nat_lt}
 use Rattle.store.specs.Store.{Store, Put, Struck, put_refusal, strike_refusal}
 use Rattle.store.specs.declared.row.Row.{Row}
 use Rattle.store.specs.Held.{rows_of}

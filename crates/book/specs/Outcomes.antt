@@ -1,5 +1,5 @@
 -- Calls and their outcomes, in the words of the plain book.
-use Rattle.std.specs.Prelude.{◌≡◌, ℕ, List, [], ◌∷◌, ◌++◌}
+use Rattle.std.specs.Prelude.{◌≡◌, List, [], ◌∷◌, ◌++◌}
 use Rattle.store.specs.Store.{Store}
 use Rattle.rules.specs.Rules.{Denial}
 use Rattle.book.specs.Plain.{Asked, entering, striking, ruling, Told, taken, ruled, refused}

@@ -1,5 +1,5 @@
 -- What a book tells of its conflicts, and of plain answers.
-use Rattle.std.specs.Prelude.{◌≡◌, ℕ, ◌<◌, ◌≤◌, Bool, List, [], length, get_or, take, Some, None, Ok, Err, Option, Result}
+use Rattle.std.specs.Prelude.{◌≡◌, ℕ, ◌<◌, ◌≤◌, Bool, List, length, take, Some, Ok, Err, Option, Result}
 use Rattle.std.specs.List.{slice_get}
 use Rattle.store.specs.Store.{Store}
 use Rattle.store.specs.declared.row.Row.{Row}

@@ -1,5 +1,5 @@
 -- What a book was asked and told since its opening, and when that is lawful.
-use Rattle.std.specs.Prelude.{◌≡◌, ℕ, Bool, List, []}
+use Rattle.std.specs.Prelude.{◌≡◌, List, []}
 use Rattle.store.specs.Store.{Store}
 use Rattle.store.specs.declared.row.Row.{Row}
 use Rattle.store.specs.Held.{rows_of, empties}

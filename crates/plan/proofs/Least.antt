@@ -8,8 +8,7 @@ use Rattle.store.specs.declared.row.Row.{Row}
 use Rattle.store.proofs.Tests.{from_not}
 use Rattle.plan.specs.Leaves.{matches, opened, leaf_lines}
 use Rattle.plan.specs.Seeking.{reaches, Padded, Least, lesser}
-use Rattle.store.specs.Held.{rows_of}
-use Rattle.plan.specs.Streams.{before}
+use Rattle.plan.specs.Streams.{rows_at, before}
 use Rattle.plan.specs.declared.node.Field.{Field}
 use Rattle.plan.specs.declared.seek.Start.{Start}
 use Rattle.plan.proofs.Before.{irreflexive, transitive, compared}
@@ -81,22 +80,22 @@ leaf_append relation fields (x ∷ xs) ys = go (eqb relation x.relation && match
     go true ih = ap (◌∷◌ (opened fields x.columns)) ih
     go false ih = ih
 
-rows_append : (xs ys : List (Option Row)) → rows_of (xs ++ ys) ≡ rows_of xs ++ rows_of ys
+rows_append : (xs ys : List (Option Row)) → rows_at (xs ++ ys) ≡ rows_at xs ++ rows_at ys
 rows_append [] ys = refl
 rows_append (Some row ∷ xs) ys = ap (◌∷◌ row) (rows_append xs ys)
 rows_append (None ∷ xs) ys = rows_append xs ys
 
 module _ (places : List (Option Row)) (i : ℕ) (within : i < length places) where
-  more : rows_of (take (i + 1) places) ≡ rows_of (take i places) ++ rows_of (get_or places i None ∷ [])
-  more = ap rows_of (take_more places i None within) ∙ rows_append (take i places) (get_or places i None ∷ [])
+  more : rows_at (take (i + 1) places) ≡ rows_at (take i places) ++ rows_at (get_or places i None ∷ [])
+  more = ap rows_at (take_more places i None within) ∙ rows_append (take i places) (get_or places i None ∷ [])
 
-  pub place_empty : get_or places i None ≡ None → rows_of (take (i + 1) places) ≡ rows_of (take i places)
-  place_empty e = more ∙ ap (λ o. rows_of (take i places) ++ rows_of (o ∷ [])) e ∙ append-nil (rows_of (take i places))
+  pub place_empty : get_or places i None ≡ None → rows_at (take (i + 1) places) ≡ rows_at (take i places)
+  place_empty e = more ∙ ap (λ o. rows_at (take i places) ++ rows_at (o ∷ [])) e ∙ append-nil (rows_at (take i places))
 
   pub place_more : (start : Start) (at : List ℕ) (w relation : ℕ) (fields : List Field) (row : Row) → get_or places i None ≡ Some row → (a b : Option (List ℕ)) →
-      Least (leaf_lines relation fields (rows_of (take i places))) start at w a → Least (leaf_lines relation fields (row ∷ [])) start at w b →
-      Least (leaf_lines relation fields (rows_of (take (i + 1) places))) start at w (lesser w a b)
+      Least (leaf_lines relation fields (rows_at (take i places))) start at w a → Least (leaf_lines relation fields (row ∷ [])) start at w b →
+      Least (leaf_lines relation fields (rows_at (take (i + 1) places))) start at w (lesser w a b)
   place_more start at w relation fields row e a b f g =
-      let rows = rows_of (take i places) in
-      subst (λ cs. Least cs start at w (lesser w a b)) (sym (ap (leaf_lines relation fields) (more ∙ ap (λ o. rows ++ rows_of (o ∷ [])) e) ∙ leaf_append relation fields rows (row ∷ [])))
+      let rows = rows_at (take i places) in
+      subst (λ cs. Least cs start at w (lesser w a b)) (sym (ap (leaf_lines relation fields) (more ∙ ap (λ o. rows ++ rows_at (o ∷ [])) e) ∙ leaf_append relation fields rows (row ∷ [])))
       (least_append start at w (leaf_lines relation fields rows) (leaf_lines relation fields (row ∷ [])) a b f g)

@@ -1,5 +1,5 @@
 -- The candidate lines of a plan, in ascending order.
-use Rattle.std.specs.Prelude.{◌≡◌, ℕ, ◌-◌, Bool, true, false, List, [], map, length, Some, None, filter, Option, slice_index_or}
+use Rattle.std.specs.Prelude.{◌≡◌, ℕ, ◌-◌, Bool, true, false, List, [], ◌∷◌, map, length, Some, None, filter, Option, slice_index_or}
 use Rattle.std.specs.Ordering.{is_lt, nat_cmp}
 use Rattle.store.specs.declared.row.Row.{Row}
 use Rattle.plan.specs.Answers.{has, chosen, linesBy, padded}
@@ -11,6 +11,12 @@ use Rattle.plan.specs.declared.node.Op.TheVariants.{Product, Union, Difference}
 use Rattle.plan.specs.declared.node.Node.{Node}
 use Rattle.plan.specs.declared.node.Node.TheVariants.{Leaf, Choice, Pair}
 use Rattle.std.specs.Cmp.Lexicographic.{slice_cmp}
+
+-- the rows that stand at these places
+abbrev pub rows_at : List (Option Row) → List Row
+rows_at [] = []
+rows_at (Some row ∷ places) = row ∷ rows_at places
+rows_at (None ∷ places) = rows_at places
 
 -- a pair's candidates: its lines, but that a difference takes nothing away
 abbrev pub candidates_by : Op → List (List ℕ) → List (List ℕ) → List (List ℕ)

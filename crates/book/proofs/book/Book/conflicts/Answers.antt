@@ -1,9 +1,8 @@
-use Rattle.std.proofs.Common.{sym, subst, arith}
+use Rattle.std.proofs.Common.{arith}
 use Rattle.std.proofs.lemmas.Bool.{le-leb, leb-true}
 use Rattle.rules.specs.Entries.{listing}
 use Rattle.rules.proofs.Counting.{counted}
 use Rattle.book.specs.Books.{rules_of}
-use Rattle.book.specs.Queries.{Counts}
 use Rattle.book.proofs.book.Book.conflicts.Goals as goal
 
 pub returns : goal.returns

@@ -1,6 +1,5 @@
-use Rattle.std.proofs.Common.{◌≡◌, List, [], sym, refl, subst}
+use Rattle.std.proofs.Common.{List, sym, refl, subst}
 use Rattle.rules.specs.Rules.{Denial}
-use Rattle.book.specs.Books.{rules_of}
 use Rattle.book.specs.Runs.{opening, opened, Life}
 use Rattle.book.proofs.Lives.{born}
 use Rattle.book.proofs.Opening.{nothing_yet}

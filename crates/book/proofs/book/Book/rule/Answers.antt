@@ -4,7 +4,7 @@ use Rattle.std.proofs.lemmas.Bool.{lt-ltb}
 use Rattle.rules.specs.Entries.{listing}
 use Rattle.store.specs.Held.{rows_of}
 use Rattle.rules.specs.Listing.{Listed, Lists, is_conflict}
-use Rattle.rules.specs.Rules.{Denial, denial, AtMost}
+use Rattle.rules.specs.Rules.{Denial, AtMost}
 use Rattle.book.specs.Books.{rules_of}
 use Rattle.book.specs.Calls.{RuleSays}
 use Rattle.book.specs.declared.refusal.Refusal.TheVariants.{RuleConflicts}

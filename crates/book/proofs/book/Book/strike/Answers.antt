@@ -1,11 +1,10 @@
-use Rattle.std.proofs.Common.{◌≡◌, ℕ, List, Ok, Err, Option, Result, sym, refl, ap, ◌∙◌, subst}
+use Rattle.std.proofs.Common.{List, Ok, Err, Option, sym, refl, ap, ◌∙◌, subst}
 use Rattle.std.proofs.lemmas.Result.{err_from_is_err_and}
 use Rattle.store.specs.declared.row.Row.{Row}
 use Rattle.rules.specs.Entries.{listing}
 use Rattle.rules.specs.Listing.{Lists, is_conflict}
 use Rattle.book.specs.Books.{rules_of}
 use Rattle.book.specs.Calls.{StrikingSays}
-use Rattle.book.specs.declared.refusal.Refusal.{Refusal}
 use Rattle.book.proofs.Lives.{striking_lives}
 use Rattle.book.proofs.Upheld.{same_store}
 use Rattle.book.proofs.book.Book.strike.Goals as goal
