@@ -1,5 +1,4 @@
 -- The facts that a desk carries say that its book is sound, and a sound book gives them.
-use Rattle.std.proofs.Common.{◌≡◌}
 use Rattle.book.specs.Books.{Sound, Right, Full, Once}
 use Rattle.book.specs.declared.book.Book.{Book}
 use Rattle.book.proofs.Tested.{right_of, full_of, exact_of}
