@@ -13,7 +13,7 @@ import os
 import re
 
 ANSWERS = ("/Answers.antt", "/Invariants.antt", "/Choices.antt")
-SIGNATURE = re.compile(r"^ {0,4}(?:(?:pub|abbrev|unfoldable) )*([^\s:(){}.,;]+) :(?: |$)")
+SIGNATURE = re.compile(r"^ *(?:(?:pub|abbrev|unfoldable) )*([^\s:(){}.,;]+) :(?: |$)")
 DECLARED = re.compile(r"^\s*(?:pub )?(?:record|data) ([^\s:(){}.,;]+)")
 FUNCTION = re.compile(r"\bfn (\w+)")
 TOKEN = re.compile(r'[^\s(){}\[\],;".]+|[(){}\[\],;".]')
@@ -43,7 +43,7 @@ def names():
     """The new name of each definition and lemma that changes."""
     where = collections.defaultdict(set)
     for path in files(".antt"):
-        if path.endswith(ANSWERS):
+        if "/proofs/" in path and path.endswith(ANSWERS):
             continue
         for line in read(path).split("\n"):
             found = DECLARED.match(line) or SIGNATURE.match(line)

@@ -1,6 +1,5 @@
 // The two questions that come first: does the plan fit the source, and the line the plan?
-ghost use Rattle.std.specs.Prelude.{◌≡◌, None};
-ghost use Rattle.plan.specs.Answers.{planWidth};
+ghost use Rattle.plan.specs.Answers.{plan_width};
 ghost use Rattle.plan.specs.Plans.{nodes_of};
 ghost use Rattle.answers.specs.Asking.{leaves_no, line_no, Unless};
 
@@ -25,7 +24,7 @@ pub fn check_leaves<S: Source>(source: &S, plan: &Plan) -> Result<(), Refusal>
 
 // Whether the line is zero from the plan's width on; if not, the first column that is not.
 pub fn check_line(plan: &Plan, line: &Line) -> Result<(), Refusal>
-    ensures { Unless (line_no (planWidth (nodes_of plan.now)) line.now.columns) result }
+    ensures { Unless (line_no (plan_width (nodes_of plan.now)) line.now.columns) result }
 {
     for column in plan.width()..8 {
         if line.columns[column] != 0 {

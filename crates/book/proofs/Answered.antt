@@ -2,7 +2,7 @@
 use Rattle.std.proofs.Common.{◌≡◌, ℕ, Bool, true, false, not, ltb, List, Some, None, Option, sym, refl, ap, ◌∙◌, subst}
 use Rattle.std.specs.Option.{option_map}
 use Rattle.fault.specs.Questions.{ask}
-use Rattle.store.specs.Refusals.{notice_of as sourceNotice}
+use Rattle.store.specs.Refusals.{notice_of as source_notice}
 use Rattle.store.specs.Rows.{zero_from}
 use Rattle.store.specs.Store.{Store, declares, ends_in_zeros, holds, has_empty, put_refusal, strike_refusal}
 use Rattle.store.specs.declared.row.Row.{Row}
@@ -15,7 +15,7 @@ use Rattle.book.specs.Plain.{Plain, Told, refused, entry_no, strike_no, Unless}
 use Rattle.book.specs.Runs.{Agrees}
 
 abbrev pub number_of : Refusal → ℕ
-number_of e = (sourceNotice e).number
+number_of e = (source_notice e).number
 
 four : (a b c d : Bool) → ask a 11 (ask b 12 (ask (not c) 13 (ask d 14 None))) ≡ option_map number_of (ask a Undeclared (ask b Unfit (ask (not c) AlreadyHeld (ask d NoEmptyPlace None))))
 four false b c d = refl

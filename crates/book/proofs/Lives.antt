@@ -5,7 +5,7 @@ use Rattle.fault.specs.Questions.{ask}
 use Rattle.store.specs.Places.{OnceIn}
 use Rattle.store.specs.Store.{Store}
 use Rattle.store.specs.declared.row.Row.{Row}
-use Rattle.rules.specs.Refusals.{rule_refusal, notice_of as ruleNotice}
+use Rattle.rules.specs.Refusals.{rule_refusal, notice_of as rule_notice}
 use Rattle.rules.specs.Rules.{Denial, AtMost}
 use Rattle.rules.specs.declared.refusal.Refusal.{Refusal as RuleRefusal}
 use Rattle.book.specs.Plain.{Plain, Asked, Told, entering, striking, ruling, taken, ruled, refused, most, entry_no, strike_no, rule_no, with_row, without_row, with_rule, Steps}
@@ -72,7 +72,7 @@ module _ (s s' : Store) (rules : List Denial) (row : Row) where
 
 module _ (s : Store) (rules after : List Denial) (rule : Denial) where
   abbrev rule_number : RuleRefusal → ℕ
-  rule_number e = (ruleNotice e).number
+  rule_number e = (rule_notice e).number
 
   -- the plain book asks of a rule what the book asks
   rule_asks : (p : Plain) → Agrees p s rules → rule_no p rule ≡ ask (ltb (length rules) 16) 21 (option_map rule_number (rule_refusal s.arity rule.atoms rule.comparisons))

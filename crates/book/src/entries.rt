@@ -67,8 +67,8 @@ impl<S: Source> Book<S> {
         requires { Sound S.Source.model S.Source.fine self.old }
         ensures sound { Sound S.Source.model S.Source.fine self.new }
         ensures source { self.new.source ≡ self.old.source }
-        ensures says { RuleSays (S.Source.model self.old.source) (rules_of self.old.log) (rules_of self.new.log) (record { atoms = atoms.entry.now; comparisons = comparisons.now }) result }
-        ensures law { LivesOn (S.Source.model self.old.source) (rules_of self.old.log) (S.Source.model self.new.source) (rules_of self.new.log) (ruling (record { atoms = atoms.entry.now; comparisons = comparisons.now })) (ruled_by result) }
+        ensures says { RuleSays (S.Source.model self.old.source) (rules_of self.old.log) (rules_of self.new.log) (record { atoms = atoms.now; comparisons = comparisons.now }) result }
+        ensures law { LivesOn (S.Source.model self.old.source) (rules_of self.old.log) (S.Source.model self.new.source) (rules_of self.new.log) (ruling (record { atoms = atoms.now; comparisons = comparisons.now })) (ruled_by result) }
     {
         let number = self.log.rule_count;
         if number >= MOST_RULES {

@@ -5,7 +5,7 @@ use Rattle.std.proofs.lemmas.List.{get_or-map}
 use Rattle.std.proofs.lemmas.Bool.{leb-false, and_parts, eqb-true}
 use Rattle.store.specs.Rows.{zero_from}
 use Rattle.store.specs.declared.row.Row.{Row}
-use Rattle.plan.specs.Answers.{has, among, chosen, width_by, linesBy, lines_of, linesAt, planWidth}
+use Rattle.plan.specs.Answers.{has, among, chosen, width_by, lines_by, lines_of, lines_at, plan_width}
 use Rattle.plan.specs.Filling.{alike, leaves_before}
 use Rattle.plan.specs.Gathering.{leaves_of}
 use Rattle.plan.specs.Laws.{ByNames}
@@ -30,9 +30,9 @@ use Rattle.plan.proofs.PlanNodes.{nodes_long, node_in, part_long, leaf_in, choic
 lines_local : (rows : List Row) → Local [] (lines_of rows)
 lines_local rows xs ys k same (Leaf relation arity fields) f = refl
 lines_local rows xs ys k same (Choice node left sign right) f = ap (filter (chosen left sign right)) (same node (leb-false k node f))
-lines_local rows xs ys k same (Pair op left right) f = let (a, b) = pair_early k left right f in ap₂ (linesBy op) (same left a) (same right b)
+lines_local rows xs ys k same (Pair op left right) f = let (a, b) = pair_early k left right f in ap₂ (lines_by op) (same left a) (same right b)
 
-pub long_by : (op : Op) (ps qs : List (List ℕ)) (v w : ℕ) → Long v ps → Long w qs → alike op v w ≡ true → Long (width_by op v w) (linesBy op ps qs)
+pub long_by : (op : Op) (ps qs : List (List ℕ)) (v w : ℕ) → Long v ps → Long w qs → alike op v w ≡ true → Long (width_by op v w) (lines_by op ps qs)
 long_by Product ps qs v w f g like t m = let (a, b, i, j, e) = pairs_pick ps qs t m in sym (ap length e) ∙ length-append a b ∙ ap₂ ◌+◌ (f a i) (g b j)
 long_by Union ps qs v w f g like t m = elim (Memᴰ.append_cases ps m) [ inl n ↦ f t n | inr n ↦ g t n ∙ sym (eqb-true v w like) ]
 long_by Difference ps qs v w f g like t m = f t (kept_pick _ ps m).0
@@ -43,13 +43,13 @@ under false x y h = refl
 
 module _ (plan : Plan) (rows : List Row) where
   abbrev Lines : ℕ → List (List ℕ)
-  Lines k = linesAt rows (nodes_of plan) k
+  Lines k = lines_at rows (nodes_of plan) k
 
   abbrev Wide : ℕ → ℕ
   Wide k = get_or plan.widths k 0
 
-  pub lines_at : (k : ℕ) → k < plan.count → Lines k ≡ lines_of rows (grown (lines_of rows) [] (nodes_of plan)) (get_or plan.nodes k blank)
-  lines_at k h =
+  pub lines_at_lem : (k : ℕ) → k < plan.count → Lines k ≡ lines_of rows (grown (lines_of rows) [] (nodes_of plan)) (get_or plan.nodes k blank)
+  lines_at_lem k h =
       value_at [] (lines_of rows) (lines_local rows) (nodes_of plan) plan.early k (omega (arith, nodes_long plan)) ∙ ap (lines_of rows (grown (lines_of rows) [] (nodes_of plan))) (node_in plan k h)
 
   -- each line of a node is as long as the node is wide
@@ -62,7 +62,7 @@ module _ (plan : Plan) (rows : List Row) where
 
   long_below : (m k : ℕ) → k < m → k < plan.count → Long (Wide k) (Lines k)
   long_below zero k l h = absurd (omega arith)
-  long_below (suc m) k l h = subst (Long (Wide k)) (sym (lines_at k h)) (long_node k h (λ j i. long_below m j (omega arith) (omega arith)) (get_or plan.nodes k blank) refl)
+  long_below (suc m) k l h = subst (Long (Wide k)) (sym (lines_at_lem k h)) (long_node k h (λ j i. long_below m j (omega arith) (omega arith)) (get_or plan.nodes k blank) refl)
 
   pub long_lines : (k : ℕ) → k < plan.count → Long (Wide k) (Lines k)
   long_lines k h = long_below (suc k) k (omega arith) h
@@ -105,14 +105,14 @@ module _ (plan : Plan) (rows : List Row) where
         let (i, j, sum, like) = pair_in plan k h op left right e in
         let o : ℕ = get_or plan.offsets k 0 in
         let (a, b) = passes_at plan k h (Pair op left right) e in
-        ap (λ w. has (linesBy op (Lines left) (Lines right)) (take w (drop o columns))) sum ∙
+        ap (λ w. has (lines_by op (Lines left) (Lines right)) (take w (drop o columns))) sum ∙
         has_by op (Lines left) (Lines right) (Wide left) (Wide right) o columns (long_lines left (omega arith)) like ∙
         ap₂ (combined op) (ap (λ p. has (Lines left) (take (Wide left) (drop p columns))) (sym a) ∙ ih left i) (ap (λ p. has (Lines right) (take (Wide right) (drop p columns))) (sym b) ∙ ih right j)
 
     claims : (m k : ℕ) → k < m → k < plan.count → Claim k
     claims zero k l h = absurd (omega arith)
     claims (suc m) k l h =
-        ap (λ ls. has ls (Part k)) (lines_at k h) ∙ claim_node k h (λ j i. claims m j (omega arith) (omega arith)) (get_or plan.nodes k blank) refl ∙ truth_at_lem plan columns truth k h
+        ap (λ ls. has ls (Part k)) (lines_at_lem k h) ∙ claim_node k h (λ j i. claims m j (omega arith) (omega arith)) (get_or plan.nodes k blank) refl ∙ truth_at_lem plan columns truth k h
 
     pub claim : (k : ℕ) → k < plan.count → Claim k
     claim k h = claims (suc k) k (omega arith) h
@@ -123,9 +123,9 @@ by_names plan columns rows truth tells =
     let h : last < plan.count = omega (arith, nodes_long plan, plan.some) in
     let (_, wide, small) = plan.wide last h in
     let w : ℕ = get_or plan.widths last 0 in
-    let answer = has (linesAt rows (nodes_of plan) last) in
-    has_padded (linesAt rows (nodes_of plan) last) w columns small (long_lines plan rows last h) ∙
+    let answer = has (lines_at rows (nodes_of plan) last) in
+    has_padded (lines_at rows (nodes_of plan) last) w columns small (long_lines plan rows last h) ∙
     ap (λ v. line_fits v columns && answer (take w columns)) wide ∙
-    under (line_fits (planWidth (nodes_of plan)) columns) (answer (take w columns)) (get_or (truths plan columns truth) last false)
-    (λ fits. let eight = eqb-true (length columns) 8 (and_parts (eqb (length columns) 8) (zero_from (planWidth (nodes_of plan)) columns) fits).0 in
+    under (line_fits (plan_width (nodes_of plan)) columns) (answer (take w columns)) (get_or (truths plan columns truth) last false)
+    (λ fits. let eight = eqb-true (length columns) 8 (and_parts (eqb (length columns) 8) (zero_from (plan_width (nodes_of plan)) columns) fits).0 in
     ap (λ o. answer (take w (drop o columns))) (sym plan.starts.0) ∙ claim plan rows columns eight truth tells last h)

@@ -4,7 +4,7 @@ use mathlib.Core.List.Memᴰ
 use mathlib.Core.List.{Memᴰ}
 use Rattle.std.proofs.lemmas.Bool.{leb-false}
 use Rattle.store.specs.declared.row.Row.{Row}
-use Rattle.plan.specs.Answers.{chosen, width_by, linesBy, lines_of, linesAt, padded}
+use Rattle.plan.specs.Answers.{chosen, width_by, lines_by, lines_of, lines_at, padded}
 use Rattle.plan.specs.Filling.{alike}
 use Rattle.plan.specs.Laws.{AllCandidates}
 use Rattle.plan.specs.Leaves.{fields_of}
@@ -16,7 +16,7 @@ use Rattle.plan.specs.declared.node.Op.TheVariants.{Product, Union, Difference}
 use Rattle.plan.specs.declared.node.Node.{Node}
 use Rattle.plan.specs.declared.node.Node.TheVariants.{Leaf, Choice, Pair}
 use Rattle.plan.specs.declared.plan.Plan.{Plan}
-use Rattle.plan.proofs.Answering.{long_by, lines_at}
+use Rattle.plan.proofs.Answering.{long_by, lines_at_lem}
 use Rattle.plan.proofs.Grown.{Local, value_at, pair_early}
 use Rattle.plan.proofs.Having.{Long, long_leaf, leaf_pick, leaf_put}
 use Rattle.plan.proofs.Members.{kept_put, kept_pick, pairs_put, pairs_pick, line_in, line_has}
@@ -62,14 +62,14 @@ module _ (plan : Plan) (rows : List Row) where
 abbrev Part : List (List ℕ) → List (List ℕ) → Type 0
 Part ts cs = (t : List ℕ) → Memᴰ t ts → Memᴰ t cs
 
-part_by : (op : Op) (ps qs cs ds : List (List ℕ)) → Part ps cs → Part qs ds → Part (linesBy op ps qs) (candidates_by op cs ds)
-part_by Product ps qs cs ds f g t m = let (u, v, i, j, e) = pairs_pick ps qs t m in subst (λ x. Memᴰ x (linesBy Product cs ds)) e (pairs_put (f u i) (g v j))
+part_by : (op : Op) (ps qs cs ds : List (List ℕ)) → Part ps cs → Part qs ds → Part (lines_by op ps qs) (candidates_by op cs ds)
+part_by Product ps qs cs ds f g t m = let (u, v, i, j, e) = pairs_pick ps qs t m in subst (λ x. Memᴰ x (lines_by Product cs ds)) e (pairs_put (f u i) (g v j))
 part_by Union ps qs cs ds f g t m = elim (Memᴰ.append_cases ps m) [ inl n ↦ Memᴰ.append_left ds (f t n) | inr n ↦ Memᴰ.append_right cs (g t n) ]
 part_by Difference ps qs cs ds f g t m = f t (kept_pick _ ps m).0
 
 module _ (plan : Plan) (R : Row → Bool) (rows : List Row) where
   abbrev Lines : ℕ → List (List ℕ)
-  Lines k = linesAt (filter R rows) (nodes_of plan) k
+  Lines k = lines_at (filter R rows) (nodes_of plan) k
 
   part_node : (k : ℕ) → k < plan.count → ((j : ℕ) → j < k → Part (Lines j) (Cands plan rows j)) → (n : Node) → get_or plan.nodes k blank ≡ n →
       Part (lines_of (filter R rows) (grown (lines_of (filter R rows)) [] (nodes_of plan)) n) (candidates_of rows (grown (candidates_of rows) [] (nodes_of plan)) n)
@@ -86,11 +86,11 @@ module _ (plan : Plan) (R : Row → Bool) (rows : List Row) where
   part_below : (m k : ℕ) → k < m → k < plan.count → Part (Lines k) (Cands plan rows k)
   part_below zero k l h = absurd (omega arith)
   part_below (suc m) k l h =
-      subst (λ cs. Part (Lines k) cs) (sym (candidates_at_lem plan rows k h)) (subst (λ ts. Part ts (candidates_of rows (grown (candidates_of rows) [] (nodes_of plan)) (get_or plan.nodes k blank))) (sym (lines_at plan (filter R rows) k h))
+      subst (λ cs. Part (Lines k) cs) (sym (candidates_at_lem plan rows k h)) (subst (λ ts. Part ts (candidates_of rows (grown (candidates_of rows) [] (nodes_of plan)) (get_or plan.nodes k blank))) (sym (lines_at_lem plan (filter R rows) k h))
       (part_node k h (λ j i. part_below m j (omega arith) (omega arith)) (get_or plan.nodes k blank) refl))
 
 pub all_candidates : AllCandidates
 all_candidates plan R rows columns h =
     let last : ℕ = length (nodes_of plan) - 1 in
-    let (t, i, e) = Memᴰ.of_map padded (linesAt (filter R rows) (nodes_of plan) last) (line_in columns (map padded (linesAt (filter R rows) (nodes_of plan) last)) h) in
+    let (t, i, e) = Memᴰ.of_map padded (lines_at (filter R rows) (nodes_of plan) last) (line_in columns (map padded (lines_at (filter R rows) (nodes_of plan) last)) h) in
     line_has (subst (λ c. Memᴰ c (map padded (candidates_at rows (nodes_of plan) last))) e (Memᴰ.map padded (part_below plan R rows (suc last) last (omega arith) (omega (arith, nodes_long plan, plan.some)) t i)))

@@ -9,7 +9,7 @@ use Rattle.store.specs.Lists.{all}
 use Rattle.store.specs.Rows.{zero_from}
 use Rattle.store.specs.declared.row.Row.{Row}
 use Rattle.store.proofs.Tests.{same_tests}
-use Rattle.plan.specs.Answers.{has, among, width_by, linesBy, padded}
+use Rattle.plan.specs.Answers.{has, among, width_by, lines_by, padded}
 use Rattle.plan.specs.Filling.{alike}
 use Rattle.plan.specs.Leaves.{opens, matches, opened, leaf_lines, filled, named}
 use Rattle.plan.specs.Parts.{right_start}
@@ -39,18 +39,18 @@ has_append ps qs t = has_if (ps ++ qs) t (has ps t || has qs t)
     (λ h. elim (or_cases (has ps t) (has qs t) h) [ inl e ↦ Memᴰ.append_left qs (line_in t ps e) | inr e ↦ Memᴰ.append_right ps (line_in t qs e) ])
 
 -- a product's line is cut where the left line ends
-has_pairs : (w : ℕ) (ps qs : List (List ℕ)) → Long w ps → (t : List ℕ) → has (linesBy Product ps qs) t ≡ (has ps (take w t) && has qs (drop w t))
-has_pairs w ps qs long t = has_if (linesBy Product ps qs) t (has ps (take w t) && has qs (drop w t))
+has_pairs : (w : ℕ) (ps qs : List (List ℕ)) → Long w ps → (t : List ℕ) → has (lines_by Product ps qs) t ≡ (has ps (take w t) && has qs (drop w t))
+has_pairs w ps qs long t = has_if (lines_by Product ps qs) t (has ps (take w t) && has qs (drop w t))
     (λ m. let (u, v, i, j, e) = pairs_pick ps qs t m in
     let first : take w t ≡ u = ap (take w) (sym e) ∙ take_at u v w (long u i) in
     let rest : drop w t ≡ v = ap (drop w) (sym e) ∙ drop_at u v w (long u i) in
     and_from (has ps (take w t)) (has qs (drop w t)) (subst (λ x. has ps x ≡ true) (sym first) (line_has i)) (subst (λ x. has qs x ≡ true) (sym rest) (line_has j)))
     (λ h. let (a, b) = and_parts (has ps (take w t)) (has qs (drop w t)) h in
-    subst (λ x. Memᴰ x (linesBy Product ps qs)) (take-append-drop w t) (pairs_put (line_in (take w t) ps a) (line_in (drop w t) qs b)))
+    subst (λ x. Memᴰ x (lines_by Product ps qs)) (take-append-drop w t) (pairs_put (line_in (take w t) ps a) (line_in (drop w t) qs b)))
 
 -- the part of a line that is a pair's, by the parts that are its nodes'
 pub has_by : (op : Op) (ps qs : List (List ℕ)) (left right o : ℕ) (t : List ℕ) → Long left ps → alike op left right ≡ true →
-    has (linesBy op ps qs) (take (width_by op left right) (drop o t)) ≡ combined op (has ps (take left (drop o t))) (has qs (take right (drop (right_start op o left) t)))
+    has (lines_by op ps qs) (take (width_by op left right) (drop o t)) ≡ combined op (has ps (take left (drop o t))) (has qs (take right (drop (right_start op o left) t)))
 has_by Product ps qs left right o t long like =
     has_pairs left ps qs long (take (left + right) (drop o t)) ∙
     ap₂ (λ u v. has ps u && has qs v) (take-take left (left + right) (drop o t) (omega arith)) (drop-take left right (drop o t) ∙ ap (take right) (drop-drop left o t))

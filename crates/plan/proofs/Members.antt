@@ -8,7 +8,7 @@ use Rattle.store.specs.Rows.{same_row}
 use Rattle.store.specs.declared.row.Row.{Row}
 use Rattle.store.proofs.Tests.{any_pick, any_put}
 use Rattle.store.proofs.Alike.{same_numbers_is, same_numbers_refl, same_row_is, same_row_refl}
-use Rattle.plan.specs.Answers.{has, among, linesBy}
+use Rattle.plan.specs.Answers.{has, among, lines_by}
 use Rattle.plan.specs.declared.node.Op.TheVariants.{Product}
 
 module _ {A : Type 0} (p : A → Bool) where
@@ -39,10 +39,10 @@ module _ {A B : Type 0} (f : A → List B) where
   ]
 
 -- a line of a product is a left line followed by a right one
-pub pairs_put : {ps qs : List (List ℕ)} {u v : List ℕ} → Memᴰ u ps → Memᴰ v qs → Memᴰ (u ++ v) (linesBy Product ps qs)
+pub pairs_put : {ps qs : List (List ℕ)} {u v : List ℕ} → Memᴰ u ps → Memᴰ v qs → Memᴰ (u ++ v) (lines_by Product ps qs)
 pairs_put {qs = qs} {u = u} i j = joined_put (λ first. map (λ next. first ++ next) qs) i (Memᴰ.map (λ (next : List ℕ). u ++ next) j)
 
-pub pairs_pick : (ps qs : List (List ℕ)) (t : List ℕ) → Memᴰ t (linesBy Product ps qs) → (u : List ℕ) × (v : List ℕ) × Memᴰ u ps × Memᴰ v qs × (u ++ v ≡ t)
+pub pairs_pick : (ps qs : List (List ℕ)) (t : List ℕ) → Memᴰ t (lines_by Product ps qs) → (u : List ℕ) × (v : List ℕ) × Memᴰ u ps × Memᴰ v qs × (u ++ v ≡ t)
 pairs_pick ps qs t m =
     let (u, i, n) = joined_pick (λ first. map (λ next. first ++ next) qs) ps m in
     let (v, j, e) = Memᴰ.of_map (λ (next : List ℕ). u ++ next) qs n in

@@ -3,7 +3,7 @@ use Rattle.std.proofs.Common.{◌≡◌, ℕ, ◌+◌, Bool, true, false, ◌⊎
 use mathlib.Core.List.{Memᴰ}
 use Rattle.std.proofs.lemmas.Bool.{both_ways, not-true, not_from_false, cases_Bool}
 use Rattle.store.proofs.Tests.{from_not}
-use Rattle.plan.specs.Answers.{linesBy}
+use Rattle.plan.specs.Answers.{lines_by}
 use Rattle.plan.specs.Seeking.{reaches, Padded, Least, on_left, on_right}
 use Rattle.plan.specs.Streams.{before}
 use Rattle.plan.specs.declared.node.Op.TheVariants.{Product}
@@ -59,31 +59,31 @@ module _ (A B : List ℕ) where
 module _ (ps qs : List (List ℕ)) (wl wr : ℕ) (long : (u : List ℕ) → Memᴰ u ps → length u ≡ wl) (A B : List ℕ) (al : length A ≡ wl) (start : Start) where
   -- a statement of each reached line, by its parts
   by_parts : (P : List ℕ → Type 0) → ((u v : List ℕ) → Memᴰ u ps → Memᴰ v qs → length A ≡ length u → reaches start (A ++ B) (u ++ v) ≡ true → P (u ++ v)) →
-      (t : List ℕ) → Memᴰ t (linesBy Product ps qs) → reaches start (A ++ B) t ≡ true → P t
+      (t : List ℕ) → Memᴰ t (lines_by Product ps qs) → reaches start (A ++ B) t ≡ true → P t
   by_parts P f t m q = let (u, v, i, j, e) = pairs_pick ps qs t m in subst P e (f u v i j (al ∙ sym (long u i)) (subst (λ z. reaches start (A ++ B) z ≡ true) (sym e) q))
 
-  none_by_parts : ((u v : List ℕ) → Memᴰ u ps → Memᴰ v qs → length A ≡ length u → reaches start (A ++ B) (u ++ v) ≡ true → ⊥) → Least (linesBy Product ps qs) start (A ++ B) (wl + wr) None
+  none_by_parts : ((u v : List ℕ) → Memᴰ u ps → Memᴰ v qs → length A ≡ length u → reaches start (A ++ B) (u ++ v) ≡ true → ⊥) → Least (lines_by Product ps qs) start (A ++ B) (wl + wr) None
   none_by_parts f t m = from_not (reaches start (A ++ B) t) (by_parts (λ _. ⊥) f t m)
 
-  pub product_none : Least ps (on_left start) A wl None → Least (linesBy Product ps qs) start (A ++ B) (wl + wr) None
+  pub product_none : Least ps (on_left start) A wl None → Least (lines_by Product ps qs) start (A ++ B) (wl + wr) None
   product_none f = none_by_parts (λ u v i j l q. both_ways (reaches (on_left start) A u) (f u i) (on_left_lem A B start u v l q))
 
-  pub product_empty : (C : List ℕ) → Least qs First C wr None → Least (linesBy Product ps qs) start (A ++ B) (wl + wr) None
+  pub product_empty : (C : List ℕ) → Least qs First C wr None → Least (lines_by Product ps qs) start (A ++ B) (wl + wr) None
   product_empty C f = none_by_parts (λ u v i j l q. both_ways true (f v j) refl)
 
   not_less : (u v x y : List ℕ) → length u ≡ length x → before u x ≡ false → (u ≡ x → before v y ≡ false) → before (u ++ v) (x ++ y) ≡ false
   not_less u v x y l a b = from_not (before (u ++ v) (x ++ y)) (λ k. elim (front_cases u x v y l k) [ inl o ↦ both_ways (before u x) a o | inr o ↦ both_ways (before v y) (b o.0) o.1 ])
 
   module _ (x : List ℕ) (left : Least ps (on_left start) A wl (Some x)) where
-    pub product_here : (y z : List ℕ) → Least qs (on_right start (before A (take wl x))) B wr (Some y) → take (wl + wr) z ≡ take wl x ++ take wr y → length z ≡ 8 → Padded (wl + wr) z → Least (linesBy Product ps qs) start (A ++ B) (wl + wr) (Some z)
+    pub product_here : (y z : List ℕ) → Least qs (on_right start (before A (take wl x))) B wr (Some y) → take (wl + wr) z ≡ take wl x ++ take wr y → length z ≡ 8 → Padded (wl + wr) z → Least (lines_by Product ps qs) start (A ++ B) (wl + wr) (Some z)
     product_here y z right e l p =
         let X : List ℕ = take wl x in
         let Y : List ℕ = take wr y in
         let lx : length A ≡ length X = al ∙ sym (long X left.0) in
-        let least : (t : List ℕ) → Memᴰ t (linesBy Product ps qs) → reaches start (A ++ B) t ≡ true → before t (X ++ Y) ≡ false = by_parts (λ t. before t (X ++ Y) ≡ false)
+        let least : (t : List ℕ) → Memᴰ t (lines_by Product ps qs) → reaches start (A ++ B) t ≡ true → before t (X ++ Y) ≡ false = by_parts (λ t. before t (X ++ Y) ≡ false)
         (λ u v i j lu q. not_less u v X Y (sym lu ∙ lx) (left.2 u i (on_left_lem A B start u v lu q))
         (λ s. right.2 v j (reach_right A B start X v lx (subst (λ c. reaches start (A ++ B) (c ++ v) ≡ true) s q) (before A X) refl))) in (
-          subst (λ t. Memᴰ t (linesBy Product ps qs)) (sym e) (pairs_put left.0 right.0),
+          subst (λ t. Memᴰ t (lines_by Product ps qs)) (sym e) (pairs_put left.0 right.0),
           subst (λ t. reaches start (A ++ B) t ≡ true) (sym e) (reach_both A B start X Y lx left.1 (before A X) refl right.1),
           (λ t m q. subst (λ c. before t c ≡ false) (sym e) (least t m q)),
           l,
@@ -92,8 +92,8 @@ module _ (ps qs : List (List ℕ)) (wl wr : ℕ) (long : (u : List ℕ) → Mem�
 
     module _ (right : Least qs (on_right start (before A (take wl x))) B wr None) where
       -- a reached line has a left part past x
-      left-past : (u v : List ℕ) → Memᴰ u ps → Memᴰ v qs → length A ≡ length u → reaches start (A ++ B) (u ++ v) ≡ true → before (take wl x) u ≡ true
-      left-past u v i j l q = elim (compared (take wl x) u) [
+      left_past : (u v : List ℕ) → Memᴰ u ps → Memᴰ v qs → length A ≡ length u → reaches start (A ++ B) (u ++ v) ≡ true → before (take wl x) u ≡ true
+      left_past u v i j l q = elim (compared (take wl x) u) [
         | inl o ↦ o
         | inr o ↦ absurd (elim o [
           | inl e ↦ both_ways (reaches (on_right start (before A (take wl x))) B v) (right v j)
@@ -102,17 +102,17 @@ module _ (ps qs : List (List ℕ)) (wl wr : ℕ) (long : (u : List ℕ) → Mem�
         ])
       ]
 
-      pub product-over : Least ps Past (take wl x) wl None → Least (linesBy Product ps qs) start (A ++ B) (wl + wr) None
-      product-over f = none_by_parts (λ u v i j l q. both_ways (before (take wl x) u) (f u i) (left-past u v i j l q))
+      pub product_over : Least ps Past (take wl x) wl None → Least (lines_by Product ps qs) start (A ++ B) (wl + wr) None
+      product_over f = none_by_parts (λ u v i j l q. both_ways (before (take wl x) u) (f u i) (left_past u v i j l q))
 
-      pub product-next : (c y z : List ℕ) (C : List ℕ) → Least ps Past (take wl x) wl (Some c) → Least qs First C wr (Some y) → take (wl + wr) z ≡ take wl c ++ take wr y → length z ≡ 8 → Padded (wl + wr) z → Least (linesBy Product ps qs) start (A ++ B) (wl + wr) (Some z)
-      product-next c y z C next first e l p =
+      pub product_next : (c y z : List ℕ) (C : List ℕ) → Least ps Past (take wl x) wl (Some c) → Least qs First C wr (Some y) → take (wl + wr) z ≡ take wl c ++ take wr y → length z ≡ 8 → Padded (wl + wr) z → Least (lines_by Product ps qs) start (A ++ B) (wl + wr) (Some z)
+      product_next c y z C next first e l p =
           let X : List ℕ = take wl c in
           let Y : List ℕ = take wr y in
           let lx : length A ≡ length X = al ∙ sym (long X next.0) in
-          let least : (t : List ℕ) → Memᴰ t (linesBy Product ps qs) → reaches start (A ++ B) t ≡ true → before t (X ++ Y) ≡ false = by_parts (λ t. before t (X ++ Y) ≡ false)
-          (λ u v i j lu q. not_less u v X Y (sym lu ∙ lx) (next.2 u i (left-past u v i j lu q)) (λ s. first.2 v j refl)) in (
-            subst (λ t. Memᴰ t (linesBy Product ps qs)) (sym e) (pairs_put next.0 first.0),
+          let least : (t : List ℕ) → Memᴰ t (lines_by Product ps qs) → reaches start (A ++ B) t ≡ true → before t (X ++ Y) ≡ false = by_parts (λ t. before t (X ++ Y) ≡ false)
+          (λ u v i j lu q. not_less u v X Y (sym lu ∙ lx) (next.2 u i (left_past u v i j lu q)) (λ s. first.2 v j refl)) in (
+            subst (λ t. Memᴰ t (lines_by Product ps qs)) (sym e) (pairs_put next.0 first.0),
             subst (λ t. reaches start (A ++ B) t ≡ true) (sym e) (reach_next A B start (take wl x) X Y lx left.1 next.1),
             (λ t m q. subst (λ s. before t s ≡ false) (sym e) (least t m q)),
             l,

@@ -4,7 +4,7 @@ use Rattle.std.proofs.lemmas.List.{drop-take}
 use Rattle.std.proofs.lemmas.Bool.{eqb-true}
 use Rattle.store.specs.declared.row.Row.{Row}
 use Rattle.store.specs.declared.sign.Sign.{Sign}
-use Rattle.plan.specs.Answers.{chosen, linesBy}
+use Rattle.plan.specs.Answers.{chosen, lines_by}
 use Rattle.plan.specs.Leaves.{fields_of, leaf_lines}
 use Rattle.plan.specs.Nodes.{grown, blank}
 use Rattle.plan.specs.Plans.{nodes_of}
@@ -23,7 +23,7 @@ use Rattle.plan.proofs.Going.{Goes, goes_end, going_none, going_found}
 use Rattle.plan.proofs.Having.{Long}
 use Rattle.plan.proofs.Least.{least_append}
 use Rattle.plan.proofs.PlanNodes.{choice_in, pair_in}
-use Rattle.plan.proofs.Products.{product_none, product_empty, product_here, product-over, product-next}
+use Rattle.plan.proofs.Products.{product_none, product_empty, product_here, product_over, product_next}
 
 two_parts : {A : Type 0} (m n : ℕ) (xs : List A) → take (m + n) xs ≡ take m xs ++ take n (drop m xs)
 two_parts m n xs = sym (take-append-drop m (take (m + n) xs)) ∙ ap₂ ◌++◌ (take-take m (m + n) xs (omega arith)) (drop-take m n xs)
@@ -55,12 +55,12 @@ module _ (plan : Plan) (rows : List Row) where
       abbrev Test : List ℕ → Bool
       Test = chosen left sign right
 
-      pub choice-finds : (a : List ℕ) → Goes (Cands m) Test (Wide m) from (Some a) → Test (take (Wide m) a) ≡ true → Finds k at start (Some a)
-      choice-finds a g good = moved _ (Wide m) (are (Choice m left sign right) e) (choice_in plan k h m left sign right e).1 (Some a)
+      pub choice_finds : (a : List ℕ) → Goes (Cands m) Test (Wide m) from (Some a) → Test (take (Wide m) a) ≡ true → Finds k at start (Some a)
+      choice_finds a g good = moved _ (Wide m) (are (Choice m left sign right) e) (choice_in plan k h m left sign right e).1 (Some a)
           (going_found (Cands m) Test start (take (Wide m) at) (Wide m) a (goes_end (Cands m) Test start (take (Wide m) at) (Wide m) from found (Some a) g) good)
 
-      pub choice-ends : Goes (Cands m) Test (Wide m) from None → Finds k at start None
-      choice-ends g = moved _ (Wide m) (are (Choice m left sign right) e) (choice_in plan k h m left sign right e).1 None
+      pub choice_ends : Goes (Cands m) Test (Wide m) from None → Finds k at start None
+      choice_ends g = moved _ (Wide m) (are (Choice m left sign right) e) (choice_in plan k h m left sign right e).1 None
           (going_none (Cands m) Test start (take (Wide m) at) (Wide m) (goes_end (Cands m) Test start (take (Wide m) at) (Wide m) from found None g))
 
     pub union_finds : (l r : ℕ) → get_or plan.nodes k blank ≡ Pair Union l r → (a b : Option (List ℕ)) → Finds l at start a → Finds r at start b → Finds k at start (lesser (Wide k) a b)
@@ -76,13 +76,13 @@ module _ (plan : Plan) (rows : List Row) where
 
     module _ (l r : ℕ) (e : get_or plan.nodes k blank ≡ Pair Product l r) (eight : length at ≡ 8) where
       abbrev Both : List (List ℕ)
-      Both = linesBy Product (Cands l) (Cands r)
+      Both = lines_by Product (Cands l) (Cands r)
 
-      long-left : Long (Wide l) (Cands l)
-      long-left = long_candidates plan rows l (omega (arith, (pair_in plan k h Product l r e).0))
+      long_left : Long (Wide l) (Cands l)
+      long_left = long_candidates plan rows l (omega (arith, (pair_in plan k h Product l r e).0))
 
-      pub both-room : Wide l + Wide r ≤ 8
-      both-room = omega (arith, (pair_in plan k h Product l r e).2, (plan.wide k h).2)
+      pub both_room : Wide l + Wide r ≤ 8
+      both_room = omega (arith, (pair_in plan k h Product l r e).2, (plan.wide k h).2)
 
       -- the start, in two parts
       lift : (o : Option (List ℕ)) → Least Both start (take (Wide l) at ++ take (Wide r) (drop (Wide l) at)) (Wide l + Wide r) o → Finds k at start o
@@ -90,29 +90,29 @@ module _ (plan : Plan) (rows : List Row) where
           (subst (λ s. Least Both start s (Wide l + Wide r) o) (sym (two_parts (Wide l) (Wide r) at)) f)
 
       begin : length (take (Wide l) at) ≡ Wide l
-      begin = length-take-le (Wide l) at (omega (arith, both-room))
+      begin = length-take-le (Wide l) at (omega (arith, both_room))
 
-      pub left-ends : Finds l at (on_left start) None → Finds k at start None
-      left-ends f = lift None (product_none (Cands l) (Cands r) (Wide l) (Wide r) long-left (take (Wide l) at) (take (Wide r) (drop (Wide l) at)) begin start f)
+      pub left_ends : Finds l at (on_left start) None → Finds k at start None
+      left_ends f = lift None (product_none (Cands l) (Cands r) (Wide l) (Wide r) long_left (take (Wide l) at) (take (Wide r) (drop (Wide l) at)) begin start f)
 
-      pub right-empty : Finds r at First None → Finds k at start None
-      right-empty f = lift None (product_empty (Cands l) (Cands r) (Wide l) (Wide r) long-left (take (Wide l) at) (take (Wide r) (drop (Wide l) at)) begin start (take (Wide r) at) f)
+      pub right_empty : Finds r at First None → Finds k at start None
+      right_empty f = lift None (product_empty (Cands l) (Cands r) (Wide l) (Wide r) long_left (take (Wide l) at) (take (Wide r) (drop (Wide l) at)) begin start (take (Wide r) at) f)
 
       module _ (x : List ℕ) (left : Finds l at (on_left start) (Some x)) (b : List ℕ) (eb : take (8 - Wide l) b ≡ drop (Wide l) at) (past : Bool) (ep : past ≡ before (take (Wide l) at) (take (Wide l) x)) where
         rest : take (Wide r) b ≡ take (Wide r) (drop (Wide l) at)
-        rest = let small : Wide r ≤ 8 - Wide l = omega (arith, both-room) in sym (take-take (Wide r) (8 - Wide l) b small) ∙ ap (take (Wide r)) eb
+        rest = let small : Wide r ≤ 8 - Wide l = omega (arith, both_room) in sym (take-take (Wide r) (8 - Wide l) b small) ∙ ap (take (Wide r)) eb
 
         on : (o : Option (List ℕ)) → Finds r b (on_right start past) o → Least (Cands r) (on_right start (before (take (Wide l) at) (take (Wide l) x))) (take (Wide r) (drop (Wide l) at)) (Wide r) o
         on o f = subst (λ s. Least (Cands r) (on_right start (before (take (Wide l) at) (take (Wide l) x))) s (Wide r) o) rest (subst (λ z. Least (Cands r) (on_right start z) (take (Wide r) b) (Wide r) o) ep f)
 
-        pub here-finds : (y z : List ℕ) → Finds r b (on_right start past) (Some y) → take (Wide l + Wide r) z ≡ take (Wide l) x ++ take (Wide r) y → length z ≡ 8 → Padded (Wide l + Wide r) z → Finds k at start (Some z)
-        here-finds y z f parts long pad = lift (Some z)
-            (product_here (Cands l) (Cands r) (Wide l) (Wide r) long-left (take (Wide l) at) (take (Wide r) (drop (Wide l) at)) begin start x left y z (on (Some y) f) parts long pad)
+        pub here_finds : (y z : List ℕ) → Finds r b (on_right start past) (Some y) → take (Wide l + Wide r) z ≡ take (Wide l) x ++ take (Wide r) y → length z ≡ 8 → Padded (Wide l + Wide r) z → Finds k at start (Some z)
+        here_finds y z f parts long pad = lift (Some z)
+            (product_here (Cands l) (Cands r) (Wide l) (Wide r) long_left (take (Wide l) at) (take (Wide r) (drop (Wide l) at)) begin start x left y z (on (Some y) f) parts long pad)
 
         module _ (right : Finds r b (on_right start past) None) where
           pub both_end : Finds l x Past None → Finds k at start None
-          both_end f = lift None (product-over (Cands l) (Cands r) (Wide l) (Wide r) long-left (take (Wide l) at) (take (Wide r) (drop (Wide l) at)) begin start x left (on None right) f)
+          both_end f = lift None (product_over (Cands l) (Cands r) (Wide l) (Wide r) long_left (take (Wide l) at) (take (Wide r) (drop (Wide l) at)) begin start x left (on None right) f)
 
-          pub next-finds : (c y z : List ℕ) → Finds l x Past (Some c) → Finds r at First (Some y) → take (Wide l + Wide r) z ≡ take (Wide l) c ++ take (Wide r) y → length z ≡ 8 → Padded (Wide l + Wide r) z → Finds k at start (Some z)
-          next-finds c y z f g parts long pad = lift (Some z)
-              (product-next (Cands l) (Cands r) (Wide l) (Wide r) long-left (take (Wide l) at) (take (Wide r) (drop (Wide l) at)) begin start x left (on None right) c y z (take (Wide r) at) f g parts long pad)
+          pub next_finds : (c y z : List ℕ) → Finds l x Past (Some c) → Finds r at First (Some y) → take (Wide l + Wide r) z ≡ take (Wide l) c ++ take (Wide r) y → length z ≡ 8 → Padded (Wide l + Wide r) z → Finds k at start (Some z)
+          next_finds c y z f g parts long pad = lift (Some z)
+              (product_next (Cands l) (Cands r) (Wide l) (Wide r) long_left (take (Wide l) at) (take (Wide r) (drop (Wide l) at)) begin start x left (on None right) c y z (take (Wide r) at) f g parts long pad)

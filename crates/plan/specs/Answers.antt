@@ -24,13 +24,13 @@ abbrev pub among : List Row → Row → Bool
 among rows row = any (same_row row) rows
 
 -- what a side of a comparison is for a line
-abbrev pub valueIn : List ℕ → Side → ℕ
-valueIn line (Column i) = slice_index line i
-valueIn line (Constant n) = n
+abbrev pub value_in : List ℕ → Side → ℕ
+value_in line (Column i) = slice_index line i
+value_in line (Constant n) = n
 
 -- the comparison holds for the line
 abbrev pub chosen : Side → Sign → Side → List ℕ → Bool
-chosen left sign right line = compares sign (valueIn line left) (valueIn line right)
+chosen left sign right line = compares sign (value_in line left) (value_in line right)
 
 -- how wide a pair is, from the widths of its nodes
 abbrev pub width_by : Op → ℕ → ℕ → ℕ
@@ -39,10 +39,10 @@ width_by Union left right = left
 width_by Difference left right = left
 
 -- a pair's lines: each left line followed by each right line, the lines of either side, or the left lines that are not on the right
-abbrev pub linesBy : Op → List (List ℕ) → List (List ℕ) → List (List ℕ)
-linesBy Product lefts rights = flat_map (λ first. map (λ next. first ++ next) rights) lefts
-linesBy Union lefts rights = lefts ++ rights
-linesBy Difference lefts rights = filter (λ line. not (has rights line)) lefts
+abbrev pub lines_by : Op → List (List ℕ) → List (List ℕ) → List (List ℕ)
+lines_by Product lefts rights = flat_map (λ first. map (λ next. first ++ next) rights) lefts
+lines_by Union lefts rights = lefts ++ rights
+lines_by Difference lefts rights = filter (λ line. not (has rights line)) lefts
 
 -- the width of a node, from the widths of the nodes before it
 abbrev pub width_of : List ℕ → Node → ℕ
@@ -54,24 +54,24 @@ width_of done (Pair op left right) = width_by op (slice_index done left) (slice_
 abbrev pub lines_of : List Row → List (List (List ℕ)) → Node → List (List ℕ)
 lines_of rows done (Leaf relation arity fields) = leaf_lines relation (fields_of arity fields) rows
 lines_of rows done (Choice node left sign right) = filter (chosen left sign right) (slice_index_or done node [])
-lines_of rows done (Pair op left right) = linesBy op (slice_index_or done left []) (slice_index_or done right [])
+lines_of rows done (Pair op left right) = lines_by op (slice_index_or done left []) (slice_index_or done right [])
 
 -- the width of the node at k
 abbrev pub width_at : List Node → ℕ → ℕ
 width_at nodes k = slice_index (grown width_of [] nodes) k
 
 -- the lines of the node at k over rows
-abbrev pub linesAt : List Row → List Node → ℕ → List (List ℕ)
-linesAt rows nodes k = slice_index_or (grown (lines_of rows) [] nodes) k []
+abbrev pub lines_at : List Row → List Node → ℕ → List (List ℕ)
+lines_at rows nodes k = slice_index_or (grown (lines_of rows) [] nodes) k []
 
 -- the width of a plan: that of its last node
-abbrev pub planWidth : List Node → ℕ
-planWidth nodes = width_at nodes (length nodes - 1)
+abbrev pub plan_width : List Node → ℕ
+plan_width nodes = width_at nodes (length nodes - 1)
 
 -- a line as eight columns: its numbers, and then zeros
 abbrev pub padded : List ℕ → List ℕ
 padded line = line ++ replicate (8 - length line) 0
 
 -- these eight columns are an answer of the plan over the rows: a line of its last node
-abbrev pub isAnswer : List Node → List Row → List ℕ → Bool
-isAnswer nodes rows columns = has (map padded (linesAt rows nodes (length nodes - 1))) columns
+abbrev pub is_answer : List Node → List Row → List ℕ → Bool
+is_answer nodes rows columns = has (map padded (lines_at rows nodes (length nodes - 1))) columns

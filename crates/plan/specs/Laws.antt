@@ -1,7 +1,7 @@
 -- The theorems about plans.
 use Rattle.std.specs.Prelude.{◌≡◌, ℕ, Bool, true, not, ◌&&◌, List, [], length, filter, slice_index_or}
 use Rattle.store.specs.declared.row.Row.{Row}
-use Rattle.plan.specs.Answers.{isAnswer, width_of}
+use Rattle.plan.specs.Answers.{is_answer, width_of}
 use Rattle.plan.specs.Filling.{Earlier, first, unfit, unfit_at}
 use Rattle.plan.specs.Nodes.{grown}
 use Rattle.plan.specs.Plans.{nodes_of}
@@ -13,7 +13,7 @@ use Rattle.plan.specs.declared.plan.Plan.{Plan}
 
 -- whether a line is an answer over rows is the plan's truth at "the rows have the row that the line names at this leaf"
 abbrev pub ByNames : Type 0
-ByNames = (plan : Plan) (columns : List ℕ) (rows : List Row) (truth : List Bool) → Tells plan columns rows truth → isAnswer (nodes_of plan) rows columns ≡ plan_truth plan columns truth
+ByNames = (plan : Plan) (columns : List ℕ) (rows : List Row) (truth : List Bool) → Tells plan columns rows truth → is_answer (nodes_of plan) rows columns ≡ plan_truth plan columns truth
 
 -- each node that a node names passes
 abbrev pub under : List Bool → Node → Bool
@@ -31,4 +31,4 @@ FirstFault = (nodes : List Node) → Earlier nodes → first (λ k. not (tree_fi
 
 -- every answer over some of the rows is a candidate over all of them
 abbrev pub AllCandidates : Type 0
-AllCandidates = (plan : Plan) (R : Row → Bool) (rows : List Row) (columns : List ℕ) → isAnswer (nodes_of plan) (filter R rows) columns ≡ true → is_candidate (nodes_of plan) rows columns ≡ true
+AllCandidates = (plan : Plan) (R : Row → Bool) (rows : List Row) (columns : List ℕ) → is_answer (nodes_of plan) (filter R rows) columns ≡ true → is_candidate (nodes_of plan) rows columns ≡ true

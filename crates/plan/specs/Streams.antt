@@ -1,8 +1,9 @@
 -- The candidate lines of a plan, in ascending order.
 use Rattle.std.specs.Prelude.{◌≡◌, ℕ, ◌-◌, Bool, true, false, List, [], ◌∷◌, map, length, Some, None, filter, Option, slice_index_or}
 use Rattle.std.specs.Ordering.{is_lt, nat_cmp}
+use Rattle.std.specs.Cmp.Lexicographic.{slice_cmp}
 use Rattle.store.specs.declared.row.Row.{Row}
-use Rattle.plan.specs.Answers.{has, chosen, linesBy, padded}
+use Rattle.plan.specs.Answers.{has, chosen, lines_by, padded}
 use Rattle.plan.specs.Leaves.{fields_of, leaf_lines}
 use Rattle.plan.specs.Nodes.{grown}
 use Rattle.plan.specs.declared.line.Line.{Line}
@@ -10,7 +11,6 @@ use Rattle.plan.specs.declared.node.Op.{Op}
 use Rattle.plan.specs.declared.node.Op.TheVariants.{Product, Union, Difference}
 use Rattle.plan.specs.declared.node.Node.{Node}
 use Rattle.plan.specs.declared.node.Node.TheVariants.{Leaf, Choice, Pair}
-use Rattle.std.specs.Cmp.Lexicographic.{slice_cmp}
 
 -- the rows that stand at these places
 abbrev pub rows_at : List (Option Row) → List Row
@@ -20,8 +20,8 @@ rows_at (None ∷ places) = rows_at places
 
 -- a pair's candidates: its lines, but that a difference takes nothing away
 abbrev pub candidates_by : Op → List (List ℕ) → List (List ℕ) → List (List ℕ)
-candidates_by Product lefts rights = linesBy Product lefts rights
-candidates_by Union lefts rights = linesBy Union lefts rights
+candidates_by Product lefts rights = lines_by Product lefts rights
+candidates_by Union lefts rights = lines_by Union lefts rights
 candidates_by Difference lefts rights = lefts
 
 -- the candidates of a node over rows, from those of the nodes before it

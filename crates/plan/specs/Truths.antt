@@ -2,7 +2,7 @@
 use Rattle.std.specs.Prelude.{◌≡◌, ℕ, ◌-◌, Bool, false, not, ◌&&◌, ◌||◌, List, [], map, length, take, drop, ◌==◌, slice_index, slice_index_or}
 use Rattle.store.specs.Rows.{zero_from}
 use Rattle.store.specs.declared.row.Row.{Row}
-use Rattle.plan.specs.Answers.{among, chosen, planWidth}
+use Rattle.plan.specs.Answers.{among, chosen, plan_width}
 use Rattle.plan.specs.Filling.{leaves_before}
 use Rattle.plan.specs.Gathering.{leaves_of}
 use Rattle.plan.specs.Leaves.{named}
@@ -44,7 +44,7 @@ line_fits width columns = length columns == 8 && zero_from width columns
 
 -- the truth of the plan for a line: that of its last node, if the line fits the plan
 abbrev pub plan_truth : Plan → List ℕ → List Bool → Bool
-plan_truth plan columns truth = line_fits (planWidth (nodes_of plan)) columns && slice_index_or (truths plan columns truth) (length (nodes_of plan) - 1) false
+plan_truth plan columns truth = line_fits (plan_width (nodes_of plan)) columns && slice_index_or (truths plan columns truth) (length (nodes_of plan) - 1) false
 
 -- `truth` begins by telling of each named row whether it is among the rows
 abbrev pub Tells : Plan → List ℕ → List Row → List Bool → Type 0

@@ -1,6 +1,6 @@
 // One comparison, for one line.
 ghost use Rattle.std.specs.Prelude.{◌≡◌, true, length};
-ghost use Rattle.plan.specs.Answers.{valueIn, chosen};
+ghost use Rattle.plan.specs.Answers.{value_in, chosen};
 ghost use Rattle.plan.specs.Filling.{inside};
 
 use crate::node::Side;
@@ -9,7 +9,7 @@ use store::Sign;
 // What a side is for this line.
 fn value_in(line: &[u32], side: Side) -> u32
     requires { inside (length line.now) side ≡ true }
-    ensures { result ≡ valueIn line.now side }
+    ensures { result ≡ value_in line.now side }
 {
     match side {
         Side::Column(column) => line[column as usize],

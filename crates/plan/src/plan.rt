@@ -1,5 +1,5 @@
 // A plan: its nodes, and what is known of them since they were filled in.
-ghost use Rattle.std.specs.Prelude.{◌≡◌, ℕ, ◌<◌, ◌≤◌, length, take};
+ghost use Rattle.std.specs.Prelude.{◌≡◌, ◌<◌, ◌≤◌, length, take};
 ghost use Rattle.plan.specs.Filling.{Earlier};
 ghost use Rattle.plan.specs.Gathering.{leaves_of, places_of};
 ghost use Rattle.plan.specs.Parts.{Measured, Offsets, Roomy};

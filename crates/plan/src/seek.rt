@@ -1,5 +1,5 @@
 // The least line from a start on, where lines are arrays of eight columns of which the first so many count.
-ghost use Rattle.std.specs.Prelude.{◌≡◌, ℕ, ◌+◌, ◌-◌, ◌≤◌, true, false, [], ◌∷◌, ◌++◌, length, take, drop, MatchOption};
+ghost use Rattle.std.specs.Prelude.{◌≡◌, ◌+◌, ◌-◌, ◌≤◌, true, false, [], ◌∷◌, ◌++◌, length, take, drop, MatchOption};
 ghost use Rattle.plan.specs.Leaves.{opens, matches, opened, leaf_lines};
 ghost use Rattle.plan.specs.Seeking.{reaches, Padded, Least, lesser, on_left, on_right};
 ghost use Rattle.plan.specs.Streams.{before};

@@ -1,6 +1,6 @@
 // Whether a line is an answer over a list of rows.
 ghost use Rattle.std.specs.Prelude.{◌≡◌};
-ghost use Rattle.plan.specs.Answers.{among, isAnswer};
+ghost use Rattle.plan.specs.Answers.{among, is_answer};
 ghost use Rattle.plan.specs.Plans.{nodes_of};
 
 use plan::{Line, Plan};
@@ -20,7 +20,7 @@ fn is_among(rows: &[Row], row: &Row) -> bool
 
 // Finds out of each row that the line names whether it is there, and asks the plan.
 pub fn is_answer(plan: &Plan, rows: &[Row], line: &Line) -> bool
-    ensures { result ≡ isAnswer (nodes_of plan.now) rows.now line.now.columns }
+    ensures { result ≡ is_answer (nodes_of plan.now) rows.now line.now.columns }
 {
     let mut truth = [false; 6];
     for leaf in 0..plan.leaves() {

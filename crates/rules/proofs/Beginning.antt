@@ -22,7 +22,7 @@ use Rattle.rules.specs.declared.rule.Side.{Side}
 use Rattle.rules.specs.declared.rule.Side.TheVariants.{Column, Constant}
 use Rattle.rules.specs.declared.rule.Comparison.{Comparison}
 use Rattle.rules.proofs.Apart.{apart_first, apart_rest, apart_put}
-use Rattle.rules.specs.Ascents.{place_in, place_has}
+use Rattle.rules.proofs.Ascents.{place_in, place_has}
 use Rattle.rules.proofs.Choosing.{at_pick, at_put, held_row}
 use Rattle.rules.proofs.Naming.{last_within}
 
@@ -185,15 +185,15 @@ module _ (table : List (Option Row)) where
 
     -- one place more
     module _ (xs : List ℕ) (p : ℕ) where
-      pub push-empty : get_or table p None ≡ None → begins table rule (xs ++ p ∷ []) ≡ false
-      push-empty none = from_not _ (λ h. both_ways _ (ap is_held none) (and_parts (held_at p) true (all_split held_at xs (p ∷ []) (begins_parts (xs ++ p ∷ []) h).0).1).0)
+      pub push_empty : get_or table p None ≡ None → begins table rule (xs ++ p ∷ []) ≡ false
+      push_empty none = from_not _ (λ h. both_ways _ (ap is_held none) (and_parts (held_at p) true (all_split held_at xs (p ∷ []) (begins_parts (xs ++ p ∷ []) h).0).1).0)
 
       module _ (r : Row) (stands : get_or table p None ≡ Some r) where
         abbrev rows' : List Row
         rows' = rows_at table xs ++ r ∷ []
 
-        pub push-parts : begins table rule (xs ++ p ∷ []) ≡ true → (eqb (get_or rule.atoms (length (rows_at table xs)) 0) r.relation ≡ true) × (any (eqb p) xs ≡ false) × (all (holds_at_last rows') cs ≡ true)
-        push-parts h =
+        pub push_parts : begins table rule (xs ++ p ∷ []) ≡ true → (eqb (get_or rule.atoms (length (rows_at table xs)) 0) r.relation ≡ true) × (any (eqb p) xs ≡ false) × (all (holds_at_last rows') cs ≡ true)
+        push_parts h =
             let (a, b, c, d) = begins_parts (xs ++ p ∷ []) h in
             let e = rows_push xs p r stands in (
               relations_last rule.atoms (rows_at table xs) r (subst (λ l. of_relations (take (length l) rule.atoms) l ≡ true) e b),
@@ -201,9 +201,9 @@ module _ (table : List (Option Row)) where
               all_put (holds_at_last rows') cs (λ x m. at_last rows' x (all_at (holds_so_far rows') m (subst (λ l. all (holds_so_far l) cs ≡ true) e d))),
             )
 
-        pub push-begins : OnceIn table → begins table rule xs ≡ true → length (rows_at table xs) < length rule.atoms →
+        pub push_begins : OnceIn table → begins table rule xs ≡ true → length (rows_at table xs) < length rule.atoms →
             eqb (get_or rule.atoms (length (rows_at table xs)) 0) r.relation ≡ true → any (eqb p) xs ≡ false → all (holds_at_last rows') cs ≡ true → begins table rule (xs ++ p ∷ []) ≡ true
-        push-begins once h room rel free last =
+        push_begins once h room rel free last =
             let (a, b, c, d) = begins_parts xs h in
             let rows : List Row = rows_at table xs in
             let e = sym (rows_push xs p r stands) in

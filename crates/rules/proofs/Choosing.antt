@@ -17,7 +17,7 @@ use Rattle.rules.specs.Choosing.{SameSet, Choice}
 use Rattle.rules.specs.Laws.{ByChoice, ChoiceApart}
 use Rattle.rules.proofs.Members.{joined_put, joined_pick, row_in, row_has}
 use Rattle.rules.proofs.Apart.{apart_first, apart_rest, apart_put}
-use Rattle.rules.specs.Ascents.{same_set, member_of}
+use Rattle.rules.proofs.Ascents.{same_set, member_of}
 use Rattle.rules.proofs.Breaking.{breaks_parts, conflict_put, conflict_pick, alone}
 
 given_pick : {r : Row} (o : Option Row) → Memᴰ r (given o) → o ≡ Some r

@@ -15,7 +15,7 @@ use Rattle.rules.specs.Listing.{Listed, Lists, rows_at, is_conflict, same_places
 use Rattle.rules.specs.Laws.{Counted, TooMany, OneTooMany}
 use Rattle.rules.proofs.Members.{row_in, row_has}
 use Rattle.rules.proofs.Apart.{apart_first, apart_rest, apart_put, no_more}
-use Rattle.rules.specs.Ascents.{same_set, one_order}
+use Rattle.rules.proofs.Ascents.{same_set, one_order}
 use Rattle.rules.proofs.Choosing.{places_same}
 use Rattle.rules.proofs.OnePlace.{conflict_parts}
 use Rattle.rules.proofs.Placed.{places_of, rows_in_lem, rows_of_lem, placed, Stands, stands}

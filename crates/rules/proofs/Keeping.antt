@@ -9,7 +9,7 @@ use Rattle.rules.specs.Listing.{Listed}
 use Rattle.rules.specs.Views.{listed_as, by_places}
 use Rattle.rules.specs.declared.conflict.Conflict.{Conflict}
 use Rattle.rules.specs.declared.list.Conflicts.{Conflicts}
-use Rattle.rules.specs.Mapping.{map_kept, rises_map, listed_map, entered_map}
+use Rattle.rules.proofs.Mapping.{map_kept, rises_map, listed_map, entered_map}
 
 -- as many are listed as the count says
 pub listing_length : (l : Conflicts) → length (listing l) ≡ l.count

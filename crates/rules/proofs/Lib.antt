@@ -2,6 +2,7 @@
 pub mod Members
 pub mod Apart
 pub mod Firsts
+pub mod Ascents
 pub mod Holding
 pub mod Listings
 pub mod OnePlace
@@ -22,7 +23,9 @@ pub mod Emptied
 pub mod Sizes
 -- For the proofs of this crate alone:
 mod Failing
+mod Mapping
 mod Beginning
+mod Sorting
 mod Pushing
 mod Growing
 mod Sharing

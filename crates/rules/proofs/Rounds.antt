@@ -13,7 +13,7 @@ use Rattle.store.specs.Held.{rows_of}
 use Rattle.rules.specs.Listing.{Listed, is_held, ascending, forbids, first_is, is_conflict}
 use Rattle.rules.specs.Choosing.{SameSet, Choice, Between, up_to}
 use Rattle.rules.specs.Laws.{RoundStarts, Enters, Round, RoundEnds}
-use Rattle.rules.specs.Ascents.{member_of, one_order}
+use Rattle.rules.proofs.Ascents.{member_of, one_order}
 use Rattle.rules.proofs.Firsts.{first_put, first_at, first_least, first_one}
 use Rattle.rules.proofs.Listings.{lists_like, between_entered}
 use Rattle.rules.proofs.OnePlace.{conflict_parts, conflict_from}

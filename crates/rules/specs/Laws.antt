@@ -1,5 +1,5 @@
 -- The theorems: what is held and what conflicts when a row or a rule comes or goes, and what readings there are.
-use Rattle.std.specs.Prelude.{◌≡◌, ℕ, ◌+◌, ◌<◌, ◌≤◌, Bool, true, false, not, ◌&&◌, ◌||◌, ltb, List, [], ◌∷◌, ◌++◌, map, length, Some, None, Decides, filter, Option, ◌==◌, ◌≢◌, nat_eq, nat_le, nat_lt, slice_index_or, slice_set}
+use Rattle.std.specs.Prelude.{◌≡◌, ℕ, ◌+◌, ◌<◌, ◌≤◌, Bool, true, false, not, ◌&&◌, ◌||◌, List, [], ◌∷◌, ◌++◌, map, length, Some, None, Decides, filter, Option, ◌==◌, ◌≢◌, nat_eq, nat_le, nat_lt, slice_index_or, slice_set}
 use mathlib.Core.List.{Memᴰ}
 use Rattle.store.specs.Lists.{any, all}
 use Rattle.store.specs.Places.{OnceIn}
@@ -129,7 +129,7 @@ PutUndone = (less more : List (Option Row)) (p : ℕ) → AlikeBut p more less �
 -- and one for a new rule's by taking out what has that rule's number
 abbrev pub RuleUndone : Type 0
 RuleUndone = (table : List (Option Row)) (rules : List Denial) (rule : Denial) (listed : List Listed) →
-    Between (up_to table (rules ++ (rule ∷ [])) (λ places. false) (length rules)) (is_conflict table (rules ++ (rule ∷ []))) listed → Lists (is_conflict table rules) (filter (λ c. ltb c.rule (length rules)) listed)
+    Between (up_to table (rules ++ (rule ∷ [])) (λ places. false) (length rules)) (is_conflict table (rules ++ (rule ∷ []))) listed → Lists (is_conflict table rules) (filter (λ c. nat_lt c.rule (length rules)) listed)
 
 -- CONFLICTS OF ROWS
 

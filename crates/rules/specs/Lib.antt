@@ -13,6 +13,4 @@ pub mod Entries
 pub mod Beginnings
 pub mod Searching
 pub mod Upkeep
-pub mod Sorting
-pub mod Ascents
-pub mod Mapping
+pub mod PlaceOrder

@@ -1,5 +1,5 @@
 // A table: a source with 64 places of its own.
-ghost use Rattle.std.specs.Prelude.{◌≡◌, ℕ, true, ◌&&◌, length, get_or};
+ghost use Rattle.std.specs.Prelude.{◌≡◌, length};
 ghost use Rattle.store.specs.Places.{OnceIn, FitIn};
 
 use crate::row::Row;

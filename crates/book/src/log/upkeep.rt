@@ -1,5 +1,5 @@
 // Keeping the list of conflicts exact as rows and rules come and go.
-ghost use Rattle.std.specs.Prelude.{◌≡◌, ◌<◌, [], ◌∷◌, ◌++◌, length, None, slice_set};
+ghost use Rattle.std.specs.Prelude.{◌≡◌, ◌<◌, [], None, slice_set};
 ghost use Rattle.rules.specs.Entries.{listing};
 ghost use Rattle.rules.specs.Listing.{Lists, is_conflict};
 ghost use Rattle.rules.specs.Rules.{denial};

@@ -1,8 +1,7 @@
 // What a plan says of itself: its width, its leaves, and the rows that a line names there.
-ghost use Rattle.std.specs.Prelude.{◌≡◌, ◌<◌, ◌≤◌, Bool, length, slice_index};
+ghost use Rattle.std.specs.Prelude.{◌≡◌, ◌<◌, ◌≤◌, length, slice_index};
 ghost use Rattle.std.specs.List.{slice_get};
-ghost use Rattle.store.specs.Rows.{zero_from};
-ghost use Rattle.plan.specs.Answers.{planWidth};
+ghost use Rattle.plan.specs.Answers.{plan_width};
 ghost use Rattle.plan.specs.Gathering.{leaves_of};
 ghost use Rattle.plan.specs.Plans.{nodes_of};
 ghost use Rattle.plan.specs.Truths.{part_at, named_rows};
@@ -16,7 +15,7 @@ use store::Row;
 impl Plan {
     // How many columns an answer has.
     pub fn width(&self) -> usize
-        ensures width { result ≡ planWidth (nodes_of self.now) }
+        ensures width { result ≡ plan_width (nodes_of self.now) }
         ensures eight { result ≤ 8 }
     {
         self.widths[self.count - 1] as usize

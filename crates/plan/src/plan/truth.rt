@@ -1,7 +1,7 @@
 // Whether a line is an answer, from whether the rows are there that it names.
-ghost use Rattle.std.specs.Prelude.{◌≡◌, ℕ, ◌<◌, Bool, true, false, List, length, slice_index_or};
+ghost use Rattle.std.specs.Prelude.{◌≡◌, ◌<◌, true, false, List, slice_index_or};
 ghost use Rattle.store.specs.declared.row.Row.{Row};
-ghost use Rattle.plan.specs.Answers.{planWidth, isAnswer};
+ghost use Rattle.plan.specs.Answers.{plan_width, is_answer};
 ghost use Rattle.plan.specs.Nodes.{blank};
 ghost use Rattle.plan.specs.Plans.{nodes_of};
 ghost use Rattle.plan.specs.Truths.{part_at, combined, truth_of, line_fits, plan_truth, Tells};
@@ -25,7 +25,7 @@ fn combine(op: Op, left: bool, right: bool) -> bool
 impl Plan {
     // Whether the line is zero from the plan's width on, as every answer is.
     pub fn fits(&self, line: &Line) -> bool
-        ensures { result ≡ line_fits (planWidth (nodes_of self.now)) line.now.columns }
+        ensures { result ≡ line_fits (plan_width (nodes_of self.now)) line.now.columns }
     {
         for column in self.width()..8 {
             if line.columns[column] != 0 {
@@ -60,7 +60,7 @@ impl Plan {
     // Whether the line is an answer, where `truth` tells for each leaf whether the row is there that the line names.
     pub fn holds(&self, line: &Line, truth: &[bool; 6]) -> bool
         ensures told { result ≡ plan_truth self.now line.now.columns truth.now }
-        ensures means { (rows : List Row) → Tells self.now line.now.columns rows truth.now → result ≡ isAnswer (nodes_of self.now) rows line.now.columns }
+        ensures means { (rows : List Row) → Tells self.now line.now.columns rows truth.now → result ≡ is_answer (nodes_of self.now) rows line.now.columns }
     {
         if !self.fits(line) {
             return false;

@@ -1,9 +1,9 @@
 // The conflict that a choice of rows makes.
+ghost use Rattle.std.specs.Ordering.{nat_cmp};
 ghost use Rattle.rules.specs.Beginnings.{places_in};
+ghost use Rattle.rules.specs.PlaceOrder.{placed};
 ghost use Rattle.rules.specs.Searching.{MadeOf};
 ghost use Rattle.rules.specs.Views.{listed_as};
-ghost use Rattle.std.specs.Ordering.{nat_cmp};
-ghost use Rattle.rules.specs.Sorting.{placed};
 
 use super::Conflict;
 use crate::chosen::Chosen;

@@ -1,8 +1,8 @@
 // What the counter does with a line, and what it says of it.
 ghost use Rattle.std.specs.Prelude.{◌≡◌, ℕ, [], replicate, None};
+ghost use Rattle.std.specs.Option.{option_map};
 ghost use Rattle.book.specs.Outcomes.{asked_by};
 ghost use Rattle.book.specs.Runs.{opened, opening, Life};
-ghost use Rattle.std.specs.Option.{option_map};
 ghost use Rattle.script.specs.Counters.{rink_arity, store_of, rules_in, asked_of, CallSays, AnswerSays, DoSays, TellSays};
 ghost use Rattle.commands.specs.Tasks.{task_of};
 

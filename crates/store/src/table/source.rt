@@ -2,7 +2,6 @@
 ghost use Rattle.std.specs.Prelude.{◌≡◌, ℕ, replicate, None};
 ghost use Rattle.store.specs.Keeping.{table_keeps};
 ghost use Rattle.store.specs.Rows.{arity_in};
-ghost use Rattle.store.specs.Store.{Store};
 ghost use Rattle.store.specs.Tables.{table_model, VacantSays};
 
 use super::Table;

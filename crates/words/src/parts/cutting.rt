@@ -1,8 +1,8 @@
 // How a text is cut: its parts from left to right, each with its place.
 ghost use Rattle.std.specs.Prelude.{◌≡◌, length};
+ghost use Rattle.std.specs.Iterator.{at_most};
 ghost use Rattle.words.specs.Language.{separates, parts_of};
 ghost use Rattle.words.specs.Meaning.{First, to_come, Step};
-ghost use Rattle.std.specs.Iterator.{at_most};
 
 use super::{Part, Parts};
 use crate::Separator;

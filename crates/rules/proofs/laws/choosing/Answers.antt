@@ -1,5 +1,5 @@
 use Rattle.rules.proofs.Choosing.{by_choice, choice_apart}
-use Rattle.rules.specs.Ascents.{one_order}
+use Rattle.rules.proofs.Ascents.{one_order}
 use Rattle.rules.proofs.laws.choosing.Goals as goal
 
 pub returns : goal.returns

@@ -3,13 +3,13 @@ use Rattle.store.specs.Lists.{all}
 use Rattle.store.proofs.Places.{inside}
 use Rattle.rules.specs.Beginnings.{places_in, holds_at_last}
 use Rattle.rules.specs.Rules.{denial}
-use Rattle.rules.proofs.Beginning.{push-empty}
+use Rattle.rules.proofs.Beginning.{push_empty}
 use Rattle.rules.proofs.Pushing.{other_relation, chosen_already, fails_at_last, one_begun}
 use Rattle.rules.proofs.search.choose.Goals as goal
 use Rattle.rules.proofs.search.choose.Goals.{then-row-relation-via-then-row-relation, then-row-relation-via-else-row-relation+then-has}
 
 pub returns-in_default : goal.returns-in_default
-returns-in_default g c = push-empty (g.S.Source.model c.args.source.now).places (denial c.args.rule.now) (places_in c.args.chosen.now) c.args.place (sym c.in_default.ensures)
+returns-in_default g c = push_empty (g.S.Source.model c.args.source.now).places (denial c.args.rule.now) (places_in c.args.chosen.now) c.args.place (sym c.in_default.ensures)
 
 pub returns-then-row-relation : goal.returns-then-row-relation
 returns-then-row-relation g c =

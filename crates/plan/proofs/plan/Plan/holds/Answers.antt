@@ -1,7 +1,7 @@
 use Rattle.std.proofs.Common.{◌≡◌, ℕ, ◌+◌, ◌-◌, ◌<◌, Bool, false, ◌&&◌, List, length, get_or, sym, ap, ◌∙◌, subst, arith, length-set}
 use Rattle.std.proofs.lemmas.Bool.{and_left}
 use Rattle.store.specs.declared.row.Row.{Row}
-use Rattle.plan.specs.Answers.{planWidth, isAnswer}
+use Rattle.plan.specs.Answers.{plan_width, is_answer}
 use Rattle.plan.specs.Filling.{leaves_before}
 use Rattle.plan.specs.Nodes.{blank}
 use Rattle.plan.specs.Plans.{nodes_of}
@@ -61,7 +61,7 @@ loop-k-preserved c =
     ]
 
 -- what is told, and so what it means for any rows
-says : (plan : Plan) (columns : List ℕ) (truth : List Bool) (r : Bool) → r ≡ plan_truth plan columns truth → (rows : List Row) → Tells plan columns rows truth → r ≡ isAnswer (nodes_of plan) rows columns
+says : (plan : Plan) (columns : List ℕ) (truth : List Bool) (r : Bool) → r ≡ plan_truth plan columns truth → (rows : List Row) → Tells plan columns rows truth → r ≡ is_answer (nodes_of plan) rows columns
 says plan columns truth r told rows tells = told ∙ sym (by_names plan columns rows truth tells)
 
 pub returns-then-not-fits : goal.returns-then-not-fits
@@ -69,7 +69,7 @@ returns-then-not-fits c =
     let plan = c.args.self.now in
     let columns = c.args.line.now.columns in
     let truth = c.args.truth.now in
-    let told : false ≡ plan_truth plan columns truth = sym (and_left (line_fits (planWidth (nodes_of plan)) columns) _ (sym c.if-not-fits.ensures)) in
+    let told : false ≡ plan_truth plan columns truth = sym (and_left (line_fits (plan_width (nodes_of plan)) columns) _ (sym c.if-not-fits.ensures)) in
     record { told = told; means = says plan columns truth false told }
 
 pub returns : goal.returns

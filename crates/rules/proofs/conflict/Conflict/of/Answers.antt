@@ -1,6 +1,6 @@
 use Rattle.std.proofs.Common.{◌<◌, length, take, ap, ◌∙◌, arith}
 use Rattle.std.proofs.lemmas.List.{take_more, take_all, length-take}
-use Rattle.rules.specs.Sorting.{sorted_more, sorted_full, sorted_made}
+use Rattle.rules.proofs.Sorting.{sorted_more, sorted_full, sorted_made}
 use Rattle.rules.proofs.conflict.Conflict.of.Goals as goal
 use Rattle.rules.proofs.conflict.Conflict.of.Goals.{in-Ok, in_default}
 

@@ -1,6 +1,6 @@
 use Rattle.std.proofs.Common.{◌≡◌, take}
 use Rattle.rules.specs.Beginnings.{places_in}
-use Rattle.rules.specs.Sorting.{Sorted}
+use Rattle.rules.proofs.Sorting.{Sorted}
 use Rattle.rules.proofs.conflict.Conflict.of.Given as goal
 
 abbrev pub invariant-loop-place : goal.invariant-loop-place

@@ -1,5 +1,5 @@
 -- Places that are entered one by one into an ordered list.
-use Rattle.std.specs.Prelude.{◌≡◌, ℕ, ◌+◌, ◌<◌, ◌≤◌, true, ltb, List, [], ◌∷◌, ◌++◌, map, length, take, nat_eq, nat_lt, slice_index_or, refl}
+use Rattle.std.specs.Prelude.{◌≡◌, ℕ, ◌+◌, ◌<◌, ◌≤◌, true, List, [], ◌∷◌, ◌++◌, map, length, take, nat_eq, nat_lt, slice_index_or, refl}
 use Rattle.std.specs.declared.cmp.Ordering.TheVariants.{Equal}
 use Rattle.std.specs.declared.cmp.Ordering.{Ordering}
 use Rattle.std.proofs.Common.{sym, ap, subst, ◌∙◌, inl, inr, ⊎_elim, arith}
@@ -20,9 +20,10 @@ use Rattle.store.specs.Lists.{any, all}
 use Rattle.rules.specs.Choosing.{SameSet}
 use Rattle.rules.specs.Listing.{ascending}
 use Rattle.rules.specs.Searching.{MadeOf}
+use Rattle.rules.specs.PlaceOrder.{by_number, placed}
 use Rattle.rules.specs.declared.conflict.making.Place.{Place}
-use Rattle.rules.specs.Ascents.{same_set, member_of}
-use Rattle.rules.specs.Mapping.{rises_map, entered_map}
+use Rattle.rules.proofs.Ascents.{same_set, member_of}
+use Rattle.rules.proofs.Mapping.{rises_map, entered_map}
 
 -- numbers that are equal in their order are the same
 rank_same : (x y : ℕ) → nat_cmp x y ≡ Equal → x ≡ y
@@ -31,13 +32,13 @@ rank_same x y e = grind (arith, nat_tests)
 below : (x y : ℕ) → is_lt (nat_cmp x y) ≡ true → nat_lt x y ≡ true
 below x y h = grind (arith, nat_tests)
 
-all_below : (x : ℕ) (ys : List ℕ) → list_all (λ y. is_lt (nat_cmp x y)) ys ≡ true → all (ltb x) ys ≡ true
+all_below : (x : ℕ) (ys : List ℕ) → list_all (λ y. is_lt (nat_cmp x y)) ys ≡ true → all (nat_lt x) ys ≡ true
 all_below x [] h = refl
-all_below x (y ∷ ys) h = let (a, b) = and_parts (is_lt (nat_cmp x y)) (list_all (λ y. is_lt (nat_cmp x y)) ys) h in and_from (nat_lt x y) (all (ltb x) ys) (below x y a) (all_below x ys b)
+all_below x (y ∷ ys) h = let (a, b) = and_parts (is_lt (nat_cmp x y)) (list_all (λ y. is_lt (nat_cmp x y)) ys) h in and_from (nat_lt x y) (all (nat_lt x) ys) (below x y a) (all_below x ys b)
 
 rises_ascends : (xs : List ℕ) → rises nat_cmp xs ≡ true → ascending xs ≡ true
 rises_ascends [] h = refl
-rises_ascends (x ∷ xs) h = let (a, b) = and_parts (list_all (λ y. is_lt (nat_cmp x y)) xs) (rises nat_cmp xs) h in and_from (all (ltb x) xs) (ascending xs) (all_below x xs a) (rises_ascends xs b)
+rises_ascends (x ∷ xs) h = let (a, b) = and_parts (list_all (λ y. is_lt (nat_cmp x y)) xs) (rises nat_cmp xs) h in and_from (all (nat_lt x) xs) (ascending xs) (all_below x xs a) (rises_ascends xs b)
 
 -- a place that is entered is there after, with those before it and no other
 entered_in : (x : ℕ) (xs : List ℕ) → rises nat_cmp xs ≡ true → Memᴰ x (entered nat_cmp x xs)
@@ -59,16 +60,6 @@ entered_set x seen xs up same = same_set (seen ++ x ∷ []) (entered nat_cmp x x
 
 abbrev number : Place → ℕ
 number p = p.0
-
-abbrev by_number : Place → Place → Ordering
-by_number a b = nat_cmp (number a) (number b)
-
-pub placed : Laws by_number
-placed = record {
-  flip = λ x y. nat_cmp_total.antisymm (number x) (number y);
-  trans = λ x y z. nat_cmp_total.trans (number x) (number y) (number z);
-  alike = λ x y z. nat_cmp_total.congr (number x) (number y) (number z);
-}
 
 entered_few : (x : Place) (xs : List Place) → rises by_number xs ≡ true → length (entered by_number x xs) ≤ length xs + 1
 entered_few x xs up = ⊎_elim
