@@ -1,5 +1,5 @@
 -- Laws of forms: what a text of each form is.
-use Rattle.std.proofs.Common.{◌≡◌, ℕ, Bool, true, false, cond, List, Some, None, Option, refl, subst, arith}
+use Rattle.std.proofs.Common.{◌≡◌, ℕ, Bool, true, false, cond, List, Some, None, Option, refl, subst}
 use Rattle.std.specs.Option.{option_map}
 use Rattle.words.specs.Language.{is_number, is_leaf, is_comparison, is_plan_sign, is_slash, Form, number, leaf, comparison, sign, slash, form_of, Placed, Formed, word_of}
 
@@ -22,7 +22,7 @@ has_form_lem text f =
     way text f (number text) _ _ (λ e. (refl, e))
     (way text f (leaf text) _ _ (λ e. (refl, e))
     (way text f (comparison text) _ _ (λ e. (refl, e))
-    (way text f (sign text) _ _ (λ e. (refl, e)) (way text f slash _ _ (λ e. e) (λ e. let z : ◌≡◌ {A = ℕ} 0 1 = cc in absurd (omega arith))))))
+    (way text f (sign text) _ _ (λ e. (refl, e)) (way text f slash _ _ (λ e. e) (λ e. cc)))))
 
 -- a word has its part's place, and its part's text has its form
 pub word_has : (p : Placed) (w : Formed) → word_of p ≡ Some w → (w.place ≡ p.place) × Has w.form p.text
@@ -30,7 +30,7 @@ unfolding word_of
 word_has p w = by (form_of p.text) (has_form_lem p.text)
   where
     by : (o : Option Form) → ((f : Form) → o ≡ Some f → Has f p.text) → option_map (λ f. record { form = f; place = p.place }) o ≡ Some w → (w.place ≡ p.place) × Has w.form p.text
-    by None has e = let z : ◌≡◌ {A = ℕ} 0 1 = cc in absurd (omega arith)
+    by None has e = cc
     by (Some f) has e =
         let is : ◌≡◌ {A = Formed} (record { form = f; place = p.place }) w = cc in
         subst (λ v. (v.place ≡ p.place) × Has v.form p.text) is (refl, has f refl)

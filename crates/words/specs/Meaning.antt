@@ -1,5 +1,5 @@
 -- What the code's values stand for in the language, and what the calls on them do.
-use Rattle.std.specs.Prelude.{◌≡◌, ℕ, ◌<◌, Bool, true, false, List, [], ◌∷◌, length, Some, None, Option, slice_index}
+use Rattle.std.specs.Prelude.{◌≡◌, ℕ, ◌<◌, Bool, true, false, List, [], length, Some, None, Option, slice_index}
 use Rattle.std.specs.Option.{option_map, unwrap_or}
 use Rattle.words.specs.declared.parts.Part.{Part}
 use Rattle.words.specs.declared.parts.Parts.{Parts}
@@ -24,11 +24,6 @@ shown p = record { text = p.text.now; place = p.place }
 -- the parts that an iterator has yet to hand out
 unfoldable pub to_come : Parts → List Placed
 to_come p = unwrap_or (option_map (λ text. placed p.place (cut (separates p.separator) text.now)) p.rest) []
-
--- a call of `next`: nothing comes where nothing is to come, and else the first part does, and the others are to come
-abbrev pub Step : Parts → Option Part → Parts → Type 0
-Step p None q = (to_come p ≡ []) × (to_come q ≡ [])
-Step p (Some part) q = to_come p ≡ shown part ∷ to_come q
 
 -- a token, without its reference
 abbrev pub seen : Token → Form

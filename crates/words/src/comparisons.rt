@@ -45,8 +45,5 @@ fn are_comparable(left: &[u8], right: &[u8]) -> bool
 pub fn is_comparison(text: &[u8]) -> bool
     ensures { result ≡ is_comparison text.now }
 {
-    match halves(text, Separator::Sign) {
-        Some((left, right)) => are_comparable(left, right),
-        None => false,
-    }
+    halves(text, Separator::Sign).is_some_and(|(left, right)| are_comparable(left, right))
 }

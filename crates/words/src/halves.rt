@@ -12,8 +12,5 @@ pub fn halves<'a>(text: &'a [u8], separator: Separator) -> Option<(&'a [u8], &'a
     let mut parts = Parts::new(text, separator);
     let before = parts.next()?;
     let behind = parts.next()?;
-    match parts.next() {
-        Some(_) => None,
-        None => Some((before.text, behind.text)),
-    }
+    parts.next().is_none().then_some((before.text, behind.text))
 }

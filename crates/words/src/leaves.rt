@@ -12,32 +12,23 @@ const MOST_COLUMNS: usize = 4;
 fn is_column(text: &[u8]) -> bool
     ensures { result ≡ is_column text.now }
 {
-    match text {
-        b"_" => true,
-        _ => is_number(text),
-    }
+    matches!(text, b"_") || is_number(text)
 }
 
 // Whether a text is one to four columns with commas between.
 fn are_columns(text: &[u8]) -> bool
     ensures { result ≡ is_columns text.now }
 {
-    let mut count = 0;
-    for column in Parts::new(text, Separator::Comma) {
-        if count == MOST_COLUMNS || !is_column(column.text) {
-            return false;
-        }
-        count += 1;
-    }
-    true
+    Parts::new(text, Separator::Comma)
+        .enumerate()
+        .all(|(i, column)| i < MOST_COLUMNS && is_column(column.text))
 }
 
 // Whether a text is a leaf.
 pub fn is_leaf(text: &[u8]) -> bool
     ensures { result ≡ is_leaf text.now }
 {
-    match halves(text, Separator::Colon) {
-        Some((relation, columns)) => is_number(relation) && are_columns(columns),
-        None => false,
-    }
+    halves(text, Separator::Colon).is_some_and(|(relation, columns)| {
+        is_number(relation) && are_columns(columns)
+    })
 }

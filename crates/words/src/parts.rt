@@ -14,6 +14,7 @@ pub struct Part<'a> {
 }
 
 // The parts of a text that are still to come, from left to right: those of `rest`, which begins at `place`.
+// The library's `split` does not tell where a part stands.
 #[derive(Drop)]
 pub struct Parts<'a> {
     separator: Separator,

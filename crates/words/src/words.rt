@@ -13,16 +13,10 @@ use crate::{Part, Token, Word};
 fn token_of<'a>(text: &'a [u8]) -> Option<Token<'a>>
     ensures { option_map seen result ≡ form_of text.now }
 {
-    if is_number(text) {
-        return Some(Token::Number(text));
-    }
-    if is_leaf(text) {
-        return Some(Token::Leaf(text));
-    }
-    if is_comparison(text) {
-        return Some(Token::Comparison(text));
-    }
     match text {
+        _ if is_number(text) => Some(Token::Number(text)),
+        _ if is_leaf(text) => Some(Token::Leaf(text)),
+        _ if is_comparison(text) => Some(Token::Comparison(text)),
         [b'*' | b'+' | b'-'] => Some(Token::Sign(text)),
         b"/" => Some(Token::Slash),
         _ => None,
@@ -33,8 +27,7 @@ fn token_of<'a>(text: &'a [u8]) -> Option<Token<'a>>
 pub fn word(part: Part<'_>) -> Option<Word<'_>>
     ensures { option_map read result ≡ word_of (shown part.entry) }
 {
-    let token = token_of(part.text)?;
-    Some(Word {
+    token_of(part.text).map(|token| Word {
         token,
         place: part.place,
     })

@@ -1,8 +1,8 @@
 // How a text is cut: its parts from left to right, each with its place.
 ghost use Rattle.std.specs.Prelude.{◌≡◌, length};
-ghost use Rattle.std.specs.Iterator.{at_most};
+ghost use Rattle.std.specs.Iterator.{YieldsFirstBy, item_count};
 ghost use Rattle.words.specs.Language.{separates, parts_of};
-ghost use Rattle.words.specs.Meaning.{First, to_come, Step};
+ghost use Rattle.words.specs.Meaning.{First, shown, to_come};
 
 use super::{Part, Parts};
 use crate::Separator;
@@ -11,12 +11,7 @@ use crate::Separator;
 fn find(text: &[u8], separator: Separator) -> Option<usize>
     ensures { First (separates separator) text.now result }
 {
-    for (i, byte) in text.iter().enumerate() {
-        if separator.separates(*byte) {
-            return Some(i);
-        }
-    }
-    None
+    text.iter().position(|byte| separator.separates(*byte))
 }
 
 impl<'a> Parts<'a> {
@@ -35,27 +30,22 @@ impl<'a> Parts<'a> {
 impl<'a> Iterator for Parts<'a> {
     type Item = Part<'a>;
 
-    ghost next_gives = { Step };
+    ghost next_gives = { YieldsFirstBy shown to_come };
 
-    ghost remaining = { λ parts. at_most (length (to_come parts)) };
+    ghost remaining = { item_count to_come };
 
     // The next part, if one is to come.
     fn next(&mut self) -> Option<Part<'a>> {
-        let text = self.rest?;
+        let text = self.rest.take()?;
         let place = self.place;
-        match find(text, self.separator) {
-            Some(end) => {
-                self.rest = Some(&text[end + 1..]);
-                self.place = place + end + 1;
-                Some(Part {
-                    text: &text[0..end],
-                    place,
-                })
-            }
-            None => {
-                self.rest = None;
-                Some(Part { text, place })
-            }
-        }
+        let Some(end) = find(text, self.separator) else {
+            return Some(Part { text, place });
+        };
+        self.rest = Some(&text[end + 1..]);
+        self.place = place + end + 1;
+        Some(Part {
+            text: &text[..end],
+            place,
+        })
     }
 }

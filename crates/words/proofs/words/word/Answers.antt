@@ -3,10 +3,6 @@ use Rattle.std.proofs.Common.{rules}
 use Rattle.words.specs.Language.{word_of}
 use Rattle.words.proofs.words.word.Goals as goal
 
-pub returns-in_err-token : goal.returns-in_err-token
-unfolding word_of
-returns-in_err-token c = search rules
-
 pub returns : goal.returns
 unfolding word_of
 returns c = search rules

@@ -1,23 +1,19 @@
 -- Each way out of `next` hands out the first of the parts to come.
-use Rattle.std.proofs.Common.{length, ap, arith, rules}
+use Rattle.std.proofs.Common.{rules}
 use Rattle.words.specs.Meaning.{to_come}
-use Rattle.words.proofs.Steps.{none_left, last_left, more_left}
+use Rattle.words.proofs.Steps.{none_left, last_left, more_left, fewer}
 use Rattle.words.proofs.parts.cutting.PartsIterator.next.Goals as goal
-use Rattle.std.proofs.iter.Next.{firm}
 
-pub returns-in_err-text : goal.returns-in_err-text
-returns-in_err-text c =
-    let none = none_left c.args.self.now c.in_err-text.was in
-    rw c.from_residual.ensures (record { steps = (none, none); goes = firm (tt) (λ h. search rules) })
+pub returns-in_err-text-clause-steps : goal.returns-in_err-text-clause-steps
+returns-in_err-text-clause-steps c = search (rules, none_left)
 
-pub returns-in-Some : goal.returns-in-Some
+pub returns-in_default : goal.returns-in_default
+returns-in_default c =
+    let last = last_left c.args.self.now c.in_ok-text.text (cc) c.in_default.ensures in
+    record { steps = last _ c.take.ensures.after; goes = fewer (last _ c.take.ensures.after) }
+
+pub returns : goal.returns
 unfolding to_come
-returns-in-Some c =
-    let more = more_left c.args.self.now c.in_ok-text.text c.in-Some.end c.in_ok-text.was c.in-Some.ensures in
-    record { steps = more; goes = firm ((tt, tt, omega (arith, ap length more))) (λ h. search rules) }
-
-pub returns-in-None : goal.returns-in-None
-unfolding to_come
-returns-in-None c =
-    let last = last_left c.args.self.now c.in_ok-text.text c.in_ok-text.was c.in-None.ensures in
-    record { steps = last; goes = firm ((tt, tt, omega (arith, ap length last))) (λ h. search rules) }
+returns c =
+    let more = more_left c.args.self.now c.in_ok-text.text c.in-Some.end (cc) c.in-Some.ensures in
+    record { steps = more; goes = fewer more }
