@@ -1,21 +1,23 @@
--- What reading a word tells of its form.
-use Rattle.std.proofs.Common.{◌≡◌, true, false, is_some, Some, None, Option, sym, refl, ap, ◌∙◌}
+-- What reading a part as a word tells of its form.
+use Rattle.std.proofs.Common.{◌≡◌, ◌&&◌, List, [], ◌∷◌, is_some, Some, None, Option, sym, refl, ap, ap₂, ◌∙◌}
+use Rattle.std.specs.List.{list_all}
 use Rattle.std.specs.Option.{option_map}
-use Rattle.words.specs.Language.{Form, Placed, Formed, form_of, word_of}
+use Rattle.store.specs.Lists.{all}
+use Rattle.words.specs.declared.tokens.Word.{Word}
+use Rattle.words.specs.Language.{Placed, Formed, form_of, word_of, texts}
+use Rattle.words.specs.Meaning.{read}
 use Rattle.commands.specs.Lines.{has_form}
 
-module _ (p : Placed) where
-  -- a part has a form where it is a word
-  by_form : is_some (word_of p) ≡ has_form p.text
-  unfolding word_of
-  by_form = same (form_of p.text)
-    where
-      same : (o : Option Form) → is_some {T = Formed} (option_map (λ f. record { form = f; place = p.place }) o) ≡ is_some o
-      same None = refl
-      same (Some f) = refl
+same : {A B : Type 0} (f : A → B) (o : Option A) → is_some o ≡ is_some (option_map f o)
+same f None = refl
+same f (Some x) = refl
 
-  pub has_form_lem : (w : Formed) → Some w ≡ word_of p → has_form p.text ≡ true
-  has_form_lem w e = sym by_form ∙ ap is_some (sym e)
+-- what is read is a word
+pub is_word : (p : Placed) (w : Option Word) → option_map read w ≡ word_of p → is_some w ≡ is_some (word_of p)
+is_word p w e = same read w ∙ ap is_some e
 
-  pub has_none : None ≡ word_of p → has_form p.text ≡ false
-  has_none e = sym by_form ∙ ap is_some (sym e)
+-- the words are the parts that have a form
+pub all_forms : (ps : List Placed) → list_all (λ p. is_some (word_of p)) ps ≡ all has_form (texts ps)
+unfolding word_of
+all_forms [] = refl
+all_forms (p ∷ ps) = ap₂ ◌&&◌ (sym (same {B = Formed} (λ f. record { form = f; place = p.place }) (form_of p.text))) (all_forms ps)

@@ -3,3 +3,4 @@ mod Forms
 mod Columns
 mod Ruling
 mod Examples
+mod Verbs

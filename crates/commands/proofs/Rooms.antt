@@ -33,30 +33,30 @@ pub further_room : (line : List ℕ) → room (drop 1 (words_of line)) ≤ lengt
 further_room line = less_room (words_of line) (length line) (ap room (sym (cut_parts Space line (parts_of Space line) refl)) ∙ cut_room (separates Space) line)
 
 -- two halves are the text without its separator
-pub halves_room : (s : Separator) (text a b : List ℕ) → Some (a, b) ≡ halves_of s text → length text ≡ length a + 1 + length b
-halves_room s text a b e = let whole = cut_room (separates s) text in omega (arith, two (cut (separates s) text) e)
+pub halves_room : (s : Separator) (text : List ℕ) {a b : List ℕ} → Some (a, b) ≡ halves_of s text → length text ≡ length a + 1 + length b
+halves_room s text {a} {b} e = let whole = cut_room (separates s) text in omega (arith, two (cut (separates s) text) e)
   where
     two : (ps : List (List ℕ)) → Some (a, b) ≡ pair_of ps → room ps ≡ 2 + length a + length b
-    two [] e = let z : ◌≡◌ {A = ℕ} 0 1 = cc in absurd (omega arith)
-    two (p ∷ []) e = let z : ◌≡◌ {A = ℕ} 0 1 = cc in absurd (omega arith)
+    two [] e = cc
+    two (p ∷ []) e = cc
     two (p ∷ q ∷ []) e = let same : ◌≡◌ {A = List ℕ × List ℕ} (a, b) (p, q) = cc in omega (arith, ap (λ (h : List ℕ × List ℕ). length h.0) same, ap (λ (h : List ℕ × List ℕ). length h.1) same)
-    two (p ∷ q ∷ r ∷ ps) e = let z : ◌≡◌ {A = ℕ} 0 1 = cc in absurd (omega arith)
+    two (p ∷ q ∷ r ∷ ps) e = cc
 
 -- a number has a byte
 pub number_long : (w : List ℕ) (x : ℕ) → Some x ≡ number_of w → 1 ≤ length w
 unfolding number_of
-number_long [] x e = let z : ◌≡◌ {A = ℕ} 0 1 = cc in absurd (omega arith)
+number_long [] x e = cc
 number_long (b ∷ bs) x e = omega arith
 
 -- so has a side of a comparison
 side_long : (w : List ℕ) (s : Side) → Some s ≡ atom_side w → 1 ≤ length w
 unfolding number_of
-side_long [] s e = let z : ◌≡◌ {A = ℕ} 0 1 = cc in absurd (omega arith)
+side_long [] s e = cc
 side_long (b ∷ bs) s e = omega arith
 
 both_some : {X Y : Type 0} (a : Option X) (b : Option Y) (c : X × Y) → Some c ≡ option_zip a b → (Some c.0 ≡ a) × (Some c.1 ≡ b)
-both_some None b c e = let z : ◌≡◌ {A = ℕ} 0 1 = cc in absurd (omega arith)
-both_some (Some x) None c e = let z : ◌≡◌ {A = ℕ} 0 1 = cc in absurd (omega arith)
+both_some None b c e = cc
+both_some (Some x) None c e = cc
 both_some (Some x) (Some y) c e = (ap (option_map (λ p. p.0)) e, ap (option_map (λ p. p.1)) e)
 
 -- a comparison has three bytes
@@ -64,12 +64,12 @@ pub comparison_long : (w : List ℕ) (c : Comparison) → Some c ≡ comparison_
 comparison_long w c = made (compared atom_side w) (λ p. parted p (halves_of AtSign w) refl)
   where
     parted : (p : Side × (Sign × Side)) (o : Option (List ℕ × List ℕ)) → halves_of AtSign w ≡ o → Some p ≡ option_flatten (option_map (λ h. option_zip (atom_side h.0) (option_zip (sign_of (get_or w (length h.0) 0)) (atom_side h.1))) o) → 3 ≤ length w
-    parted p None e is = let z : ◌≡◌ {A = ℕ} 0 1 = cc in absurd (omega arith)
+    parted p None e is = cc
     parted p (Some (a, b)) e is =
         let (left, others) = both_some (atom_side a) _ p is in
         let (sign, right) = both_some _ (atom_side b) p.1 others in
-        omega (arith, halves_room AtSign w a b (sym e), side_long a p.0 left, side_long b p.1.1 right)
+        omega (arith, halves_room AtSign w (sym e), side_long a p.0 left, side_long b p.1.1 right)
 
     made : (o : Option (Side × (Sign × Side))) → ((p : Side × (Sign × Side)) → Some p ≡ o → 3 ≤ length w) → Some c ≡ option_map (λ p. record { left = p.0; sign = p.1.0; right = p.1.1 }) o → 3 ≤ length w
-    made None long is = let z : ◌≡◌ {A = ℕ} 0 1 = cc in absurd (omega arith)
+    made None long is = cc
     made (Some p) long is = long p refl

@@ -20,7 +20,7 @@ abbrev closing : List ℕ → List Comparison → List Comparison → Denial
 closing atoms comparisons more = record { atoms = atoms; comparisons = comparisons ++ more }
 
 -- what a rule so far and the words to come make: while it has no comparison, atoms may follow
-pub followed : List ℕ → List Comparison → List (List ℕ) → Option Denial
+abbrev pub followed : List ℕ → List Comparison → List (List ℕ) → Option Denial
 followed atoms [] ws = option_map (behind atoms) (rule_from ws)
 followed atoms (c ∷ cs) ws = option_map (closing atoms (c ∷ cs)) (each comparison_of ws)
 
@@ -29,28 +29,18 @@ pub record Sofar (all : List (List ℕ)) (rule : Denial) (others : List Placed) 
   pub same : rule_from all ≡ followed rule.atoms rule.comparisons (texts others)
   pub fits : 2 * length rule.atoms + 4 * length rule.comparisons + room (texts others) ≤ 200
 
-pub none_yet : {rule : Denial} {others : List Placed} (all : List (List ℕ)) → room all ≤ 200 → rule ≡ atomless [] → texts others ≡ all → Sofar all rule others
-unfolding followed
-none_yet all h empty whole = rw empty (record { same = rw whole (same (rule_from all)); fits = rw whole (omega arith) })
-  where
-    same : (o : Option Denial) → o ≡ option_map (behind []) o
-    same None = refl
-    same (Some d) = refl
-
 module _ (atoms : List ℕ) (w : List ℕ) (ws : List (List ℕ)) where
   -- an atom, before the first comparison
   atom_next : (cs : List Comparison) (x a : ℕ) → Some x ≡ atom_behind cs w → Some a ≡ as_relation x → followed atoms cs (w ∷ ws) ≡ followed (atoms ++ (a ∷ [])) cs ws
-  unfolding followed
   atom_next [] x a is can = rw (← is, ← can) (regroup (rule_from ws))
     where
       regroup : (o : Option Denial) → option_map (behind atoms) (option_map (λ p. led p.0 p.1) (option_zip (Some a) o)) ≡ option_map (behind (atoms ++ (a ∷ []))) o
       regroup None = refl
       regroup (Some d) = ap (λ all. Some (record { atoms = all; comparisons = d.comparisons })) (sym (append_assoc atoms (a ∷ []) d.atoms))
-  atom_next (c ∷ cs) x a is can = let z : ◌≡◌ {A = ℕ} 0 1 = cc in absurd (omega arith)
+  atom_next (c ∷ cs) x a is can = cc
 
   -- a comparison, which is the first or not
   comparison_next : (cs : List Comparison) (c : Comparison) → None ≡ atom_behind cs w → Some c ≡ comparison_of w → followed atoms cs (w ∷ ws) ≡ followed atoms (cs ++ (c ∷ [])) ws
-  unfolding followed
   comparison_next [] c none is = rw (← none, ← is) (regroup (each comparison_of ws))
     where
       regroup : (o : Option (List Comparison)) → option_map (behind atoms) (option_map atomless (prefixed (Some c) o)) ≡ option_map (closing atoms (c ∷ [])) o
@@ -62,26 +52,9 @@ module _ (atoms : List ℕ) (w : List ℕ) (ws : List (List ℕ)) where
       regroup None = refl
       regroup (Some more) = ap (λ all. Some (record { atoms = atoms; comparisons = all })) (sym (append_assoc (d ∷ ds) (c ∷ []) more))
 
-  -- a number that is no relation's
-  no_relation : (cs : List Comparison) (x : ℕ) → Some x ≡ atom_behind cs w → None ≡ as_relation x → followed atoms cs (w ∷ ws) ≡ None
-  unfolding followed
-  no_relation [] x is cannot = rw (← is, ← cannot) refl
-  no_relation (c ∷ cs) x is cannot = let z : ◌≡◌ {A = ℕ} 0 1 = cc in absurd (omega arith)
-
-  -- a word that is neither an atom nor a comparison
-  no_comparison : (cs : List Comparison) → None ≡ atom_behind cs w → None ≡ comparison_of w → followed atoms cs (w ∷ ws) ≡ None
-  unfolding followed
-  no_comparison [] none is_none = rw (← none, ← is_none) refl
-  no_comparison (c ∷ cs) none is_none = rw (← is_none) refl
-
-ended : (atoms : List ℕ) (cs : List Comparison) → followed atoms cs [] ≡ Some (record { atoms = atoms; comparisons = cs })
-unfolding followed
-ended atoms [] = ap (λ all. Some (record { atoms = all; comparisons = [] })) (append-nil atoms)
-ended atoms (c ∷ cs) = ap (λ all. Some (record { atoms = atoms; comparisons = all })) (append-nil (c ∷ cs))
-
 number_behind : (cs : List Comparison) (w : List ℕ) (x : ℕ) → Some x ≡ atom_behind cs w → 1 ≤ length w
 number_behind [] w x is = number_long w x is
-number_behind (c ∷ cs) w x is = let z : ◌≡◌ {A = ℕ} 0 1 = cc in absurd (omega arith)
+number_behind (c ∷ cs) w x is = cc
 
 module _ {all : List (List ℕ)} {rule : Denial} {others rest : List Placed} {p : Placed} (so : Sofar all rule others) (next : others ≡ p ∷ rest) where
   here : Sofar all rule (p ∷ rest)
@@ -102,13 +75,3 @@ module _ {all : List (List ℕ)} {rule : Denial} {others rest : List Placed} {p 
         same = here.same ∙ comparison_next rule.atoms p.text (texts rest) rule.comparisons c none is;
         fits = omega (arith, here.fits, comparison_long p.text c is, length_push rule.comparisons c);
       })
-
-  pub atom_refused : (x : ℕ) → Some x ≡ atom_behind rule.comparisons p.text → None ≡ as_relation x → None ≡ rule_from all
-  atom_refused x is cannot = sym (here.same ∙ no_relation rule.atoms p.text (texts rest) rule.comparisons x is cannot)
-
-  pub comparison_refused : None ≡ atom_behind rule.comparisons p.text → None ≡ comparison_of p.text → None ≡ rule_from all
-  comparison_refused none is_none = sym (here.same ∙ no_comparison rule.atoms p.text (texts rest) rule.comparisons none is_none)
-
--- all words are read
-pub all_read : {all : List (List ℕ)} {rule : Denial} {others : List Placed} → Sofar all rule others → others ≡ [] → Some rule ≡ rule_from all
-all_read {all} {rule} so none = sym ((subst (Sofar all rule) none so).same ∙ ended rule.atoms rule.comparisons)

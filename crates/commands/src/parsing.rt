@@ -29,24 +29,18 @@ pub fn parse(line: &[u8]) -> Result<Command, Refusal>
     if line.len() > MOST_BYTES {
         return Err(Refusal::TooLong);
     }
-    let Some(verb) = verb_in(line) else {
-        return Err(Refusal::UnknownCommand);
-    };
+    let verb = verb_in(line).ok_or(Refusal::UnknownCommand)?;
     if !have_forms(further(line)) {
         return Err(Refusal::UnknownWord);
     }
-    match command_of(verb, further(line)) {
-        Some(command) => Ok(command),
-        None => Err(Refusal::Misplaced),
-    }
+    command_of(verb, further(line)).ok_or(Refusal::Misplaced)
 }
 
 // What the first word of a line commands, if it is known.
 fn verb_in(line: &[u8]) -> Option<Verb>
     ensures { result ≡ verb_in (words_of line.now) }
 {
-    let mut words = Parts::new(line, Separator::Space);
-    let first = words.next()?;
+    let first = Parts::new(line, Separator::Space).next()?;
     Verb::of(first.text)
 }
 
@@ -61,37 +55,22 @@ fn further(line: &[u8]) -> Parts<'_>
 }
 
 // Whether each word has a form.
-fn have_forms(words: Parts<'_>) -> bool
+fn have_forms(mut words: Parts<'_>) -> bool
     ensures { result ≡ all has_form (texts (to_come words.entry)) }
 {
-    for part in words {
-        if let None = word(part) {
-            return false;
-        }
-    }
-    true
+    words.all(|part| word(part).is_some())
 }
 
 // What the verb and the words behind it command.
-fn command_of(verb: Verb, words: Parts<'_>) -> Option<Command>
+fn command_of(verb: Verb, mut words: Parts<'_>) -> Option<Command>
     requires { room (texts (to_come words)) ≤ 200 }
     ensures { option_map task_of result ≡ task_from verb (texts (to_come words.entry)) }
 {
     match verb {
-        Verb::Enter => Some(Command::Enter(row_from(words)?)),
-        Verb::Strike => Some(Command::Strike(row_from(words)?)),
-        Verb::Rule => Some(Command::Rule(rule_from(words)?)),
-        Verb::Conflicts => conflicts_from(words),
-    }
-}
-
-// The command to list the conflicts, which stands alone on its line.
-fn conflicts_from(words: Parts<'_>) -> Option<Command>
-    ensures { option_map task_of result ≡ alone conflicts (texts (to_come words.entry)) }
-{
-    let mut words = words;
-    match words.next() {
-        Some(_) => None,
-        None => Some(Command::Conflicts),
+        Verb::Enter => row_from(words).map(Command::Enter),
+        Verb::Strike => row_from(words).map(Command::Strike),
+        Verb::Rule => rule_from(words).map(Command::Rule),
+        // It stands alone on its line.
+        Verb::Conflicts => words.next().is_none().then_some(Command::Conflicts),
     }
 }

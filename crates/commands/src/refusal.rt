@@ -16,12 +16,12 @@ pub enum Refusal {
     Misplaced,
 }
 
-impl Refusal {
-    // The number, layer and position that a person is told.
-    pub fn notice(self) -> Notice
-        ensures { result ≡ notice_of self }
-    {
-        match self {
+// The number, layer and position that a person is told.
+impl From<Refusal> for Notice {
+    ghost from_gives = { λ refusal notice. notice ≡ notice_of refusal };
+
+    fn from(refusal: Refusal) -> Notice {
+        match refusal {
             Refusal::TooLong => Notice::new(1, 0),
             Refusal::UnknownCommand => Notice::new(2, 0),
             Refusal::UnknownWord => Notice::new(3, 0),

@@ -10,25 +10,20 @@ use words::{Parts, number};
 pub fn relation_of(value: u32) -> Option<u16>
     ensures { result ≡ as_relation value }
 {
-    if value <= u16::MAX as u32 {
-        Some(value as u16)
-    } else {
-        None
-    }
+    u16::try_from(value).ok()
 }
 
 // One column or more, but no more than N, the rest zero.
-pub fn columns_from<const N: usize>(words: Parts<'_>) -> Option<[u32; N]>
+pub fn columns_from<const N: usize>(mut words: Parts<'_>) -> Option<[u32; N]>
     ensures { result ≡ columns_from N (texts (to_come words.entry)) }
 {
     let mut columns = [0; N];
-    let mut count = 0;
-    for part in words {
-        if count == N {
-            return None;
-        }
-        columns[count] = number(part.text)?;
-        count += 1;
+    for i in 0..N {
+        let Some(part) = words.next() else {
+            // One at least was there.
+            return (i > 0).then_some(columns);
+        };
+        columns[i] = number(part.text)?;
     }
-    if count > 0 { Some(columns) } else { None }
+    (N > 0 && words.next().is_none()).then_some(columns)
 }

@@ -29,7 +29,7 @@ fn atom_side(text: &[u8]) -> Option<Side>
             atom: *atom - b'0',
             column: *column - b'0',
         }),
-        _ => Some(Side::Constant(number(text)?)),
+        _ => number(text).map(Side::Constant),
     }
 }
 

@@ -9,10 +9,9 @@ use store::Row;
 use words::{Parts, number};
 
 // A row from its words.
-pub fn row_from(words: Parts<'_>) -> Option<Row>
+pub fn row_from(mut words: Parts<'_>) -> Option<Row>
     ensures { result ≡ row_from (texts (to_come words.entry)) }
 {
-    let mut words = words;
     let first = words.next()?;
     let relation = relation_of(number(first.text)?)?;
     let columns = columns_from(words)?;

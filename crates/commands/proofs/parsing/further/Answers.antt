@@ -6,7 +6,7 @@ use Rattle.commands.specs.Lines.{words_of}
 use Rattle.commands.proofs.Rooms.{further_room}
 use Rattle.commands.proofs.parsing.further.Goals as goal
 
-pub returns : goal.returns
-returns c =
+pub returns-clause-inside : goal.returns-clause-inside
+returns-clause-inside c =
     let same : texts (to_come c.next.new.self) ≡ drop 1 (words_of c.args.line.now) = search rules in
-    record { words = same; inside = rw same (further_room c.args.line.now) }
+    rw same (further_room c.args.line.now)

@@ -4,5 +4,5 @@ use Rattle.words.specs.Meaning.{to_come}
 use Rattle.commands.proofs.Columns.{Sofar}
 use Rattle.commands.proofs.parsing.columns.columns_from.Given as goal
 
-abbrev pub invariant-loop-part : goal.invariant-loop-part
-invariant-loop-part g l = Sofar g.row.N (texts (to_come l.words)) l.columns l.count (to_come l.part-iterator)
+abbrev pub invariant-loop-i : goal.invariant-loop-i
+invariant-loop-i g l = Sofar g.row.N (texts (to_come l.initial.words)) l.columns l.i (to_come l.words)

@@ -5,4 +5,4 @@ use Rattle.commands.proofs.Rooms.{halves_room}
 use Rattle.commands.proofs.parsing.comparison.comparison_of.Goals as goal
 
 pub bounds-text-left : goal.bounds-text-left
-bounds-text-left c = omega (arith, halves_room Sign c.args.text.now c.in_ok-left.left.now c.in_ok-left.right.now c.in_ok-left.ensures)
+bounds-text-left c = omega (arith, halves_room Sign c.args.text.now c.in_ok-left.ensures)
