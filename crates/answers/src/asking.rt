@@ -9,7 +9,6 @@ use store::Source;
 
 // Whether each leaf has the arity that the source tells for its relation; if not, the first leaf that has not.
 pub fn check_leaves<S: Source>(source: &S, plan: &Plan) -> Result<(), Refusal>
-    requires { S.Source.fine source.now }
     ensures { Unless (leaves_no (S.Source.model source.now).arity (nodes_of plan.now)) result }
 {
     for number in 0..plan.leaves() {

@@ -11,7 +11,6 @@ use store::Source;
 
 // Of each leaf, whether the row is held that the line names there: one look-up a leaf.
 fn held_at_leaves<S: Source>(source: &S, plan: &Plan, line: &Line) -> [bool; 6]
-    requires { S.Source.fine source.now }
     ensures { Tells plan.now line.now.columns (rows_of (S.Source.model source.now).places) result }
 {
     let mut truth = [false; 6];
@@ -25,7 +24,6 @@ fn held_at_leaves<S: Source>(source: &S, plan: &Plan, line: &Line) -> [bool; 6]
 
 // Whether the line is an answer of the plan over all rows of the source.
 pub fn plain<S: Source>(source: &S, plan: &Plan, line: &Line) -> Result<bool, Refusal>
-    requires { S.Source.fine source.now }
     ensures { PlainSays (S.Source.model source.now) (nodes_of plan.now) line.now.columns result }
 {
     check_leaves(source, plan)?;

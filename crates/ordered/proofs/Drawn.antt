@@ -1,7 +1,8 @@
 -- What a caller draws from the promises when its list ascends. Assumes nothing.
 use Rattle.std.proofs.Common.{◌≡◌, ℕ, ◌<◌, min, Bool, true, List, ◌++◌, length, take, Ordering, sym, ap, ◌∙◌, arith}
 use Rattle.std.proofs.lemmas.List.{length-take, length-take-le, take-append-drop}
-use Rattle.ordered.specs.Order.{Laws, rises, listed, entered}
+use Rattle.std.specs.Cmp.{IsTotalOrder}
+use Rattle.ordered.specs.Order.{rises, listed, entered}
 use Rattle.ordered.specs.Promises.{Enters, Refuses, Retains}
 use Rattle.ordered.proofs.Ascending.{rises_kept_by}
 use Rattle.ordered.proofs.Capped.{take_capped}
@@ -17,7 +18,7 @@ module _ {X : Type 0} {order : X → X → Ordering} {x : X} {front items after 
   no_room h = omega (arith, h.full, length_entered order x front (h.absent up))
 
 -- an equal element entered again alters nothing
-pub unaltered : {X : Type 0} {order : X → X → Ordering} {x : X} {items after : List X} {n : ℕ} → Laws order → (count : ℕ) → rises order (take count items) ≡ true → listed order x (take count items) ≡ true → length after ≡ length items → Enters order x (take count items) items after n → after ≡ items
+pub unaltered : {X : Type 0} {order : X → X → Ordering} {x : X} {items after : List X} {n : ℕ} → IsTotalOrder order → (count : ℕ) → rises order (take count items) ≡ true → listed order x (take count items) ≡ true → length after ≡ length items → Enters order x (take count items) items after n → after ≡ items
 unaltered {X} {order} {x} {items} {after} {n} laws count up old long h =
     let same = entered_listed laws x (take count items) up old in
     let told : n ≡ min count (length items) = entered_count up long h ∙ ap length same ∙ length-take count items in

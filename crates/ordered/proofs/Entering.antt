@@ -6,7 +6,8 @@ use Rattle.std.specs.Ordering.{is_eq}
 use Rattle.std.specs.List.{AllByRecursion as All}
 use Rattle.std.proofs.ByRecursion.{All-weaker}
 use Rattle.std.proofs.lemmas.Bool.{both_ways, or_parts, or_cases, or_from, cases_Bool}
-use Rattle.ordered.specs.Order.{Laws, rises, listed, pick, entered}
+use Rattle.std.specs.Cmp.{IsTotalOrder}
+use Rattle.ordered.specs.Order.{rises, listed, pick, entered}
 use Rattle.ordered.proofs.Ascending.{head_first, tail_rises, rises_cons}
 use Rattle.ordered.proofs.Comparing.{turned}
 
@@ -56,7 +57,7 @@ module _ {X : Type 0} (order : X → X → Ordering) where
       (λ _. Memᴰ.cases_cons)
       m
 
-module _ {X : Type 0} {order : X → X → Ordering} (laws : Laws order) where
+module _ {X : Type 0} {order : X → X → Ordering} (laws : IsTotalOrder order) where
   -- what comes after y comes after what is before y
   all_after : (x y : X) (ys : List X) → order y x ≡ Greater → All (λ z. order y z ≡ Less) ys → All (λ z. order x z ≡ Less) ys
   all_after x y ys greater = All-weaker (λ z. order y z ≡ Less) (λ z. order x z ≡ Less) (λ z. laws.trans x y z (turned laws y x Greater greater)) ys

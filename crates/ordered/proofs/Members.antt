@@ -5,7 +5,8 @@ use mathlib.Core.List.{Memᴰ}
 use Rattle.std.specs.Ordering.{is_eq}
 use Rattle.std.specs.List.{AllByRecursion as All}
 use Rattle.std.proofs.lemmas.Bool.{both_ways, or_left, or_right, or_cases}
-use Rattle.ordered.specs.Order.{Laws, rises, listed}
+use Rattle.std.specs.Cmp.{IsTotalOrder}
+use Rattle.ordered.specs.Order.{rises, listed}
 use Rattle.ordered.proofs.Ascending.{head_first, tail_rises}
 use Rattle.ordered.proofs.Comparing.{alike_right, not_both}
 
@@ -36,7 +37,7 @@ module _ {X : Type 0} (order : X → X → Ordering) where
   pub member_after : (x z : X) (xs : List X) → rises order (x ∷ xs) ≡ true → Memᴰ z xs → order x z ≡ Less
   member_after x z xs up = all_member (λ y. order x y ≡ Less) z xs (head_first order x xs up)
 
-module _ {X : Type 0} {order : X → X → Ordering} (laws : Laws order) where
+module _ {X : Type 0} {order : X → X → Ordering} (laws : IsTotalOrder order) where
   -- what is equal to x in the order is listed where x is
   pub listed_alike : (x z : X) (xs : List X) → order x z ≡ Equal → listed order x xs ≡ listed order z xs
   listed_alike x z [] e = refl

@@ -1,12 +1,13 @@
 -- What `enter` leaves, from what `find` told and what `insert` did. Assumes nothing.
 use Rattle.std.proofs.Common.{◌≡◌, ℕ, ◌≤◌, List, length, take, drop, Ordering, sym, refl, ap, ◌∙◌}
 use Rattle.std.specs.List.{insert}
-use Rattle.ordered.specs.Order.{Laws, rises}
+use Rattle.std.specs.Cmp.{IsTotalOrder}
+use Rattle.ordered.specs.Order.{rises}
 use Rattle.ordered.specs.Promises.{Stands, Belongs, Enters, Refuses}
 use Rattle.ordered.proofs.Entering.{entered_listed, rises_entered}
 use Rattle.ordered.proofs.Placing.{listed_from_stands, entered_from_belongs, unlisted_from_belongs}
 
-module _ {X : Type 0} {order : X → X → Ordering} (laws : Laws order) {x : X} {items : List X} {place : ℕ} where
+module _ {X : Type 0} {order : X → X → Ordering} (laws : IsTotalOrder order) {x : X} {items : List X} {place : ℕ} where
   -- an equal element stands in the list
   pub again : (n : ℕ) → n ≤ length items → Stands order (take n items) x place → Enters order x (take n items) items items n
   again n le at = record {

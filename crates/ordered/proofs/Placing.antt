@@ -4,7 +4,8 @@ use Rattle.std.specs.List.{insert}
 use Rattle.std.specs.Ordering.{is_eq}
 use Rattle.std.proofs.lemmas.List.Edits.{length-insert}
 use Rattle.std.proofs.lemmas.Bool.{or_left, or_right, cases_lt, cases_Bool}
-use Rattle.ordered.specs.Order.{Laws, rises, listed, pick, entered}
+use Rattle.std.specs.Cmp.{IsTotalOrder}
+use Rattle.ordered.specs.Order.{rises, listed, pick, entered}
 use Rattle.ordered.specs.Promises.{Stands, Belongs}
 use Rattle.ordered.proofs.Ascending.{rising_from_rises}
 use Rattle.ordered.proofs.Comparing.{turned}
@@ -25,7 +26,7 @@ module _ {X : Type 0} (order : X → X → Ordering) where
       ap (λ o. pick o (y ∷ entered order x ys) (y ∷ ys) (x ∷ y ∷ ys)) (f 0 (omega arith))
       ∙ ap (λ l. y ∷ l) (entered_between ys x i (omega arith) (λ k lt. f (suc k) (omega arith)) (λ k h lt. g (suc k) (omega arith) (omega arith)))
 
-module _ {X : Type 0} {order : X → X → Ordering} (laws : Laws order) (xs : List X) (x : X) (i : ℕ) (up : rises order xs ≡ true) (h : Belongs order xs x i) where
+module _ {X : Type 0} {order : X → X → Ordering} (laws : IsTotalOrder order) (xs : List X) (x : X) (i : ℕ) (up : rises order xs ≡ true) (h : Belongs order xs x i) where
   -- in a list that ascends, all that stand before the place are before x ..
   pub before_place : (k : ℕ) → k < i → order (get_or xs k x) x ≡ Less
   before_place k lt = ⊎_elim

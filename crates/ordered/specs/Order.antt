@@ -2,16 +2,8 @@
 use Rattle.std.specs.Prelude.{◌≡◌, ℕ, ◌<◌, Bool, true, false, ◌&&◌, ◌||◌, List, [], ◌∷◌, length, slice_index_or}
 use Rattle.std.specs.declared.cmp.Ordering.TheVariants.{Less, Equal, Greater}
 use Rattle.std.specs.declared.cmp.Ordering.{Ordering}
-use Rattle.std.specs.Ordering.{ordering_reverse, is_lt, is_eq}
+use Rattle.std.specs.Ordering.{is_lt, is_eq}
 use Rattle.std.specs.List.{list_all}
-
--- a total order: of two elements one is before the other or they are equal in the order, and before carries over
-pub record Laws {X : Type 0} (order : X → X → Ordering) : Type 0 where
-  -- asked the other way round, the answer is the other way round
-  pub flip : (x y : X) → order x y ≡ ordering_reverse (order y x)
-  pub trans : (x y z : X) → order x y ≡ Less → order y z ≡ Less → order x z ≡ Less
-  -- elements that are equal in the order compare alike with every other
-  pub alike : (x y z : X) → order x y ≡ Equal → order x z ≡ order y z
 
 -- the list ascends: each element is before every later one
 abbrev pub rises : {X : Type 0} → (X → X → Ordering) → List X → Bool

@@ -1,21 +1,20 @@
-// Entering an element into an ordered list.
+// Entering an item into an ordered list.
 ghost use Rattle.std.specs.Prelude.{◌≡◌, ◌+◌, ◌<◌, ◌≤◌, length, take, drop, MatchResult};
 ghost use Rattle.std.specs.List.{insert};
 ghost use Rattle.ordered.specs.Promises.{Enters, Refuses};
 
-use crate::element::Ordered;
 use crate::lookup::find;
 
-// The element is not in the list, and there is no place left for it.
+// The item is not in the list, and there is no place left for it.
 #[derive(Clone, Copy)]
 pub struct Full;
 
 // Enters `x` at its place among the first `count` items, which ascend, and tells how many they are then.
 // Where an equal item stands already, nothing is altered.
-pub fn enter<T: Ordered + Copy>(items: &mut [T], count: usize, x: T) -> Result<usize, Full>
+pub fn enter<T: Ord + Copy>(items: &mut [T], count: usize, x: T) -> Result<usize, Full>
     ensures { MatchResult result
-        (Enters T.order x (take count items.old) items.old items.new)
-        (λ _. Refuses T.order x (take count items.old) items.old items.new) }
+        (Enters T.cmp x (take count items.old) items.old items.new)
+        (λ _. Refuses T.cmp x (take count items.old) items.old items.new) }
 {
     let count = count.min(items.len());
     let place = match find(items, count, &x) {
@@ -36,8 +35,6 @@ fn insert<T: Copy>(items: &mut [T], count: usize, place: usize, x: T)
     ensures list { take (count + 1) items.new ≡ insert (take count items.old) place x }
     ensures rest { drop (count + 1) items.new ≡ drop (count + 1) items.old }
 {
-    for k in (place..count).rev() {
-        items[k + 1] = items[k];
-    }
+    items.copy_within(place..count, place + 1);
     items[place] = x;
 }

@@ -1,20 +1,19 @@
-// Lists kept in ascending order in the first places of a slice, for every kind of element.
+// Lists of a fixed most length, in memory that is there already: nothing is allocated.
 //
-// The caller owns the slice and knows how many of its items are in use. Finding an element halves what is left, entering
-// one moves those behind it up by one place, and taking some out is one pass over the list. Nothing is allocated.
+// A `Few` keeps its items in the value itself. An ordered list keeps them ascending in the first places of a slice that
+// the caller owns, who knows how many are in use: finding an item halves what is left, entering one moves those behind it
+// up by one place, and taking some out is one pass over the list.
 #![tactic(auto)]
 
-mod columns;
-mod element;
 mod entry;
+mod few;
 mod lookup;
 mod removal;
 
-pub use columns::compare_columns;
-pub use element::Ordered;
 pub use entry::{Full, enter};
+pub use few::Few;
 pub use lookup::find;
-pub use removal::{Test, retain};
+pub use removal::retain;
 
 #[cfg(test)]
 mod tests;

@@ -1,21 +1,21 @@
-// Where an element stands in an ordered list.
+// Where an item stands in an ordered list.
 ghost use Rattle.std.specs.Prelude.{take, MatchResult};
 ghost use Rattle.ordered.specs.Promises.{Stands, Belongs};
 
-use crate::element::Ordered;
 use std::cmp::Ordering;
 
 // Where `x` stands among the first `count` items, which ascend, or else where it belongs.
-pub fn find<T: Ordered>(items: &[T], count: usize, x: &T) -> Result<usize, usize>
+// The library's `binary_search` tells no `Err` of items that do not ascend, and this promises one of any.
+pub fn find<T: Ord>(items: &[T], count: usize, x: &T) -> Result<usize, usize>
     ensures { MatchResult result
-        (Stands T.order (take count items.now) x.now)
-        (Belongs T.order (take count items.now) x.now) }
+        (Stands T.cmp (take count items.now) x.now)
+        (Belongs T.cmp (take count items.now) x.now) }
 {
     let mut low = 0;
     let mut high = count.min(items.len());
     while low < high {
         let mid = low + (high - low) / 2;
-        match items[mid].compare(x) {
+        match items[mid].cmp(x) {
             Ordering::Less => low = mid + 1,
             Ordering::Equal => return Ok(mid),
             Ordering::Greater => high = mid,

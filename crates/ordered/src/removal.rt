@@ -1,23 +1,19 @@
-// Taking elements out of a list.
-ghost use Rattle.std.specs.Prelude.{◌≡◌, Bool, take};
+// Taking items out of a list.
+ghost use Rattle.std.specs.Prelude.{◌≡◌, ◌≤◌, Bool, length, take};
+ghost use Rattle.std.specs.Fn.{FnReturnsAt};
 ghost use Rattle.ordered.specs.Promises.{Retains};
 
-// A test of elements.
-pub trait Test<T> {
-    ghost passes: { Self → T → Bool };
-
-    fn test(&self, x: &T) -> bool
-        ensures { result ≡ passes self.now x.now };
-}
-
 // Keeps those of the first `count` items that pass, in their order, and tells how many they are; from there on all stays.
-pub fn retain<T: Copy, P: Test<T>>(items: &mut [T], count: usize, keep: &P) -> usize
-    ensures { Retains (P.passes keep.now) (take count items.old) items.old items.new result }
+pub fn retain<T: Copy, F: Fn(&T) -> bool>(items: &mut [T], count: usize, keep: F) -> usize
+    requires { F.IsAlwaysCallable keep }
+    ensures few { result ≤ length (take count items.old) }
+    ensures kept { (passes : T → Bool) → ((x : T) (b : Bool) → FnReturnsAt F.Fn keep x b → b ≡ passes x) → Retains passes (take count items.old) items.old items.new result }
 {
+    // One pass both reads and writes the slice, so it goes by index.
     let mut passed = 0;
     for i in 0..count.min(items.len()) {
         let item = items[i];
-        if keep.test(&item) {
+        if keep(&item) {
             items[passed] = item;
             passed += 1;
         }

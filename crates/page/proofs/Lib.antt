@@ -7,3 +7,4 @@ pub mod Passing
 pub mod Kept
 pub mod Opened
 pub mod Laid
+pub mod Standing

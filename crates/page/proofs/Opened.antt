@@ -1,9 +1,9 @@
 -- What a page is opened with: arities that read the same, and no bytes where they are refused.
-use Rattle.std.proofs.Common.{◌≡◌, ℕ, ◌%◌, cond, eqb, leb, List, [], length, is_some, None, Option, sym, refl, ap, ◌∙◌, subst, arith}
+use Rattle.std.proofs.Common.{◌≡◌, ℕ, ◌%◌, cond, eqb, leb, List, [], length, is_some, None, Option, refl, ap, ◌∙◌, arith}
 use Rattle.fault.specs.Questions.{ask}
 use Rattle.store.specs.Keeping.{keeps_of}
 use Rattle.store.specs.Rows.{arity_in}
-use Rattle.store.specs.Store.{Store, Kept}
+use Rattle.store.specs.Store.{Store}
 use Rattle.store.proofs.Places.{once_none, fit_none}
 use Rattle.page.specs.Checks.{record_refusal, check_refusal, IsPage}
 use Rattle.page.specs.Pages.{records_of, places_of, page_of, store_of}
@@ -15,12 +15,9 @@ use Rattle.page.specs.declared.refusal.Refusal.TheVariants.{NotWhole, TooLong}
 pub same_arities : (kept arities : List ℕ) → ((relation : ℕ) → arity_in kept relation ≡ arity_in arities relation) → arity_in kept ≡ arity_in arities
 same_arities kept arities same = λ i relation. same relation i
 
-pub page_again : (bytes kept arities : List ℕ) → arity_in kept ≡ arity_in arities → IsPage bytes arities → IsPage bytes kept
-page_again bytes kept arities same page = record {
-  passes = ap (λ (a : ℕ → ℕ). ask (eqb (length bytes % 20) 0) NotWhole (ask (leb (length bytes) 5120) TooLong (record_refusal a (records_of bytes)))) same ∙ page.passes;
-  whole = page.whole;
-  kept = subst (λ (a : ℕ → ℕ). Kept (record { arity = a; places = places_of bytes })) (sym same) page.kept;
-}
+-- so they refuse the same bytes
+pub same_check : (bytes kept arities : List ℕ) → ((relation : ℕ) → arity_in kept relation ≡ arity_in arities relation) → check_refusal bytes kept ≡ check_refusal bytes arities
+same_check bytes kept arities same = ap (λ (a : ℕ → ℕ). ask (eqb (length bytes % 20) 0) NotWhole (ask (leb (length bytes) 5120) TooLong (record_refusal a (records_of bytes)))) (same_arities kept arities same)
 
 pub page_none : (arities : List ℕ) → IsPage [] arities
 unfolding records_of places_of page_of

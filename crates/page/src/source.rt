@@ -1,10 +1,10 @@
 // A page as a source: its rows are read, put and struck in the bytes that the caller lends.
-ghost use Rattle.std.specs.Prelude.{◌≡◌, ℕ, ◌<◌, None};
+ghost use Rattle.std.specs.Prelude.{◌≡◌, ◌≤◌, ℕ, ◌<◌, None, false, is_some, length};
+ghost use Rattle.store.specs.Places.{OnceIn, FitIn};
 ghost use Rattle.store.specs.Rows.{arity_in};
 ghost use Rattle.store.specs.Tables.{VacantSays};
 ghost use Rattle.page.specs.Checks.{check_refusal};
-ghost use Rattle.page.specs.Pages.{store_of};
-ghost use Rattle.page.specs.Sources.{page_model, page_fine, opened};
+ghost use Rattle.page.specs.Pages.{store_of, places_of, page_of};
 
 use crate::checking::check;
 use crate::encoding::{empty, encode, write_record};
@@ -16,6 +16,11 @@ pub struct Page<'a> {
     // the arities of the relations 0 to 15
     arities: [u8; 16],
     bytes: &'a mut [u8],
+    ghost passes: { is_some (check_refusal bytes.now arities) ≡ false },
+    ghost whole: { page_of (places_of bytes.now) ≡ bytes.now },
+    ghost few: { length (places_of bytes.now) ≤ 256 },
+    ghost fit: { FitIn arities (places_of bytes.now) },
+    ghost once: { OnceIn (places_of bytes.now) },
 }
 
 // The arities that the bytes give the relations 0 to 15.
@@ -30,25 +35,21 @@ fn declared(arities: &[u8]) -> [u8; 16]
 }
 
 impl<'a> Page<'a> {
+    ghost use Rattle.page.specs.Sources.{page_model, opened};
+
     // The source over the bytes, where they are a page of rows that fit the arities. Over any other
     // bytes it has no places: it then holds none of the bytes, so that it cannot write any.
     pub fn open(arities: &[u8], bytes: &'a mut [u8]) -> Page<'a>
-        ensures fine { page_fine result }
         ensures model { page_model result ≡ store_of (opened bytes.old arities.now) arities.now }
         ensures bytes { result.bytes.now ≡ opened bytes.old arities.now }
         ensures lent { check_refusal bytes.old arities.now ≡ None → result.bytes.ghost_name ≡ bytes.entry.ghost_name }
     {
-        let declared = declared(arities);
-        match check(bytes, arities) {
-            Ok(()) => Page {
-                arities: declared,
-                bytes,
-            },
-            Err(_) => Page {
-                arities: declared,
-                bytes: &mut bytes[0..0],
-            },
+        let arities = declared(arities);
+        if let Err(_) = check(bytes, &arities) {
+            let bytes = &mut bytes[0..0];
+            return Page { arities, bytes };
         }
+        Page { arities, bytes }
     }
 
     // The first empty place.
@@ -66,11 +67,11 @@ impl<'a> Page<'a> {
 }
 
 impl<'a> Source for Page<'a> {
+    ghost use Rattle.page.specs.Sources.{page_model, page_keeps};
+
     ghost model = { page_model };
 
-    ghost fine = { page_fine };
-
-    ghost keeps = { λ p f. f.kept };
+    ghost keeps = { page_keeps };
 
     ghost anchor = { λ p. p.bytes.ghost_name };
 

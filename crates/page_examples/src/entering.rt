@@ -17,8 +17,6 @@ pub enum Hindrance {
 
 // Puts the row into a source of any kind; it stands for code that knows nothing of pages.
 fn put_into<S: Source>(source: &mut S, row: &Row) -> Result<usize, store::Refusal>
-    requires { S.Source.fine source.old }
-    ensures fine { S.Source.fine source.new }
     ensures anchor { S.Source.anchor source.new ≡ S.Source.anchor source.old }
     ensures says { PutSays (S.Source.model source.old) (S.Source.model source.new) row.now result }
 {

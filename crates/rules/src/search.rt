@@ -30,7 +30,6 @@ pub fn find_conflicts<S: Source>(
     scope: Scope,
     list: &mut Conflicts,
 ) -> Result<(), Full>
-    requires { S.Source.fine source.now }
     ensures { FindSays (S.Source.model source.now).places (denial rule.now) (in_scope scope) number (listing list.old) (listing list.new) result }
 {
     extend(source, rule, number, scope, Chosen::none(), list)
@@ -45,7 +44,6 @@ fn extend<S: Source>(
     chosen: Chosen,
     list: &mut Conflicts,
 ) -> Result<(), Full>
-    requires fine { S.Source.fine source.now }
     requires begun { Begun (S.Source.model source.now).places (denial rule.now) chosen }
     ensures { SearchSays (S.Source.model source.now).places (denial rule.now) scope number (places_in chosen) (listing list.old) (listing list.new) result }
 {
@@ -74,7 +72,6 @@ fn span(scope: Scope, atom: usize, places: usize) -> (usize, usize)
 
 // These rows and the one at a place, if a choice that breaks the rule can begin so.
 fn choose<S: Source>(source: &S, rule: &Rule, chosen: &Chosen, place: usize) -> Option<Chosen>
-    requires fine { S.Source.fine source.now }
     requires begun { Begun (S.Source.model source.now).places (denial rule.now) chosen.now }
     requires room { length (places_in chosen.now) < length (denial rule.now).atoms }
     ensures { ChooseSays (S.Source.model source.now).places (denial rule.now) chosen.now place result }

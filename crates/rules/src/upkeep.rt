@@ -25,7 +25,6 @@ pub fn add_place<S: Source>(
     place: usize,
     list: &mut Conflicts,
 ) -> Result<(), Full>
-    requires fine { S.Source.fine source.now }
     requires few { length rules.now ≤ 256 }
     requires exact { Lists (is_conflict (slice_set (S.Source.model source.now).places place None) (map denial rules.now)) (listing list.old) }
     ensures { AddSays (S.Source.model source.now).places (map denial rules.now) (listing list.old) (listing list.new) result }
@@ -48,7 +47,6 @@ fn add_each<S: Source>(
     row: &Row,
     list: &mut Conflicts,
 ) -> Result<(), Full>
-    requires fine { S.Source.fine source.now }
     requires few { length rules.now ≤ 256 }
     requires stands { at (S.Source.model source.now) place ≡ Some row.now }
     requires others { Lists (up_to (S.Source.model source.now).places (map denial rules.now) (away_from place) 0) (listing list.old) }
@@ -69,7 +67,6 @@ fn add_share<S: Source>(
     row: &Row,
     list: &mut Conflicts,
 ) -> Result<(), Full>
-    requires fine { S.Source.fine source.now }
     requires stands { at (S.Source.model source.now) place ≡ Some row.now }
     ensures { FindSays (S.Source.model source.now).places (denial rule.now) (any (nat_eq place)) number (listing list.old) (listing list.new) result }
 {
@@ -88,7 +85,6 @@ pub fn add_rule<S: Source>(
     rule: &Rule,
     list: &mut Conflicts,
 ) -> Result<(), Full>
-    requires fine { S.Source.fine source.now }
     requires few { length rules.now < 256 }
     requires exact { Lists (is_conflict (S.Source.model source.now).places (map denial rules.now)) (listing list.old) }
     ensures { AddSays (S.Source.model source.now).places (map denial rules.now ++ denial rule.now ∷ []) (listing list.old) (listing list.new) result }

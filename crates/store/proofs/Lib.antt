@@ -5,3 +5,5 @@ pub mod Places
 pub mod Arities
 pub mod Asked
 pub mod HeldRows
+pub mod Firsts
+pub mod Looked

@@ -68,6 +68,13 @@ put_refusal s row =
     (ask (not (holds s row)) AlreadyHeld
     (ask (has_empty s) NoEmptyPlace None)))
 
+-- the first three of them, of the arity of the row's relation and of whether the row is held
+abbrev pub admission : ℕ → Row → Bool → Option Refusal
+admission arity row held =
+    ask (nat_lt 0 arity) Undeclared
+    (ask (zero_from arity row.columns) Unfit
+    (ask (not held) AlreadyHeld None))
+
 -- a row that is put stands at one place that was empty, and all else is as it was
 pub record Put (before after : Store) (row : Row) (p : ℕ) : Type 0 where
   pub granted : put_refusal before row ≡ None

@@ -1,9 +1,11 @@
 // Arities as they are given: one byte for each of the relations 0 to 15.
-ghost use Rattle.std.specs.Prelude.{◌≡◌};
+ghost use Rattle.std.specs.Prelude.{◌≡◌, ℕ};
 ghost use Rattle.store.specs.Rows.{arity_in, zero_from};
 
+use std::array;
+
 // Only relations below this may be declared.
-const RELATIONS: usize = 16;
+const RELATIONS: u16 = 16;
 
 const MOST_ARITY: u8 = 4;
 
@@ -12,22 +14,25 @@ const MOST_ARITY: u8 = 4;
 pub fn arity_in(arities: &[u8], relation: u16) -> u8
     ensures { result ≡ arity_in arities.now relation }
 {
-    let place = relation as usize;
-    if place < RELATIONS && place < arities.len() && arities[place] <= MOST_ARITY {
-        arities[place]
-    } else {
-        0
+    match arities.get(relation as usize) {
+        Some(&arity) if relation < RELATIONS && arity <= MOST_ARITY => arity,
+        _ => 0,
     }
+}
+
+// The arities that the bytes give the relations 0 to 15, as bytes that give the same.
+pub fn declared(arities: &[u8]) -> [u8; 16]
+    ensures { (relation : ℕ) → arity_in result relation ≡ arity_in arities.now relation }
+{
+    array::from_fn(|relation| arity_in(arities, relation as u16))
 }
 
 // Whether the columns from the arity on are zero.
 pub fn zero_from(arity: u8, columns: &[u32; 4]) -> bool
     ensures { result ≡ zero_from arity columns.now }
 {
-    for column in arity as usize..4 {
-        if columns[column] != 0 {
-            return false;
-        }
-    }
-    true
+    columns
+        .iter()
+        .skip(arity as usize)
+        .all(|column| *column == 0)
 }

@@ -4,6 +4,7 @@
 // by the trait `Source` over the model in specs/Store.antt; each source is proved against it.
 #![tactic(auto)]
 
+mod admission;
 mod arity;
 mod refusal;
 mod row;
@@ -11,9 +12,10 @@ mod sign;
 mod source;
 mod table;
 
-pub use arity::{arity_in, zero_from};
+pub use admission::admit;
+pub use arity::{arity_in, declared, zero_from};
 pub use refusal::Refusal;
-pub use row::{Row, same};
+pub use row::Row;
 pub use sign::Sign;
 pub use source::Source;
 pub use table::Table;

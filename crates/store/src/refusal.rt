@@ -18,12 +18,12 @@ pub enum Refusal {
     NotHeld,
 }
 
-impl Refusal {
-    // The number, layer and position that a person is told.
-    pub fn notice(self) -> Notice
-        ensures { result ≡ notice_of self }
-    {
-        match self {
+// The number, layer and position that a person is told.
+impl From<Refusal> for Notice {
+    ghost from_gives = { λ refusal notice. notice ≡ notice_of refusal };
+
+    fn from(refusal: Refusal) -> Notice {
+        match refusal {
             Refusal::Undeclared => Notice::new(11, 0),
             Refusal::Unfit => Notice::new(12, 0),
             Refusal::AlreadyHeld => Notice::new(13, 0),

@@ -31,7 +31,6 @@ pub fn check_rule<S: Source>(
     atoms: &[u16],
     comparisons: &[Comparison],
 ) -> Result<Rule, Refusal>
-    requires { S.Source.fine source.now }
     ensures { CheckSays (S.Source.model source.now).arity atoms.now comparisons.now result }
 {
     if atoms.len() == 0 || atoms.len() > 3 || comparisons.len() > 6 {
@@ -53,7 +52,6 @@ pub fn check_rule<S: Source>(
 
 // The first atom whose relation is not declared.
 fn first_undeclared<S: Source>(source: &S, atoms: &[u16]) -> Option<usize>
-    requires { S.Source.fine source.now }
     ensures { FailSays (is_declared (S.Source.model source.now).arity) atoms.now result }
 {
     for (i, atom) in atoms.iter().enumerate() {
@@ -66,7 +64,6 @@ fn first_undeclared<S: Source>(source: &S, atoms: &[u16]) -> Option<usize>
 
 // The first comparison with a column that is none of the rule's.
 fn first_unnamed<S: Source>(source: &S, atoms: &[u16], comparisons: &[Comparison]) -> Option<usize>
-    requires { S.Source.fine source.now }
     ensures { FailSays (names (S.Source.model source.now).arity atoms.now) comparisons.now result }
 {
     for (index, comparison) in comparisons.iter().enumerate() {
@@ -79,7 +76,6 @@ fn first_unnamed<S: Source>(source: &S, atoms: &[u16], comparisons: &[Comparison
 
 // Whether each side of a comparison is a constant or a column of the rule.
 fn names_columns<S: Source>(source: &S, atoms: &[u16], comparison: &Comparison) -> bool
-    requires { S.Source.fine source.now }
     ensures { result ≡ names (S.Source.model source.now).arity atoms.now comparison.now }
 {
     side_names(source, atoms, comparison.left) && side_names(source, atoms, comparison.right)
@@ -87,7 +83,6 @@ fn names_columns<S: Source>(source: &S, atoms: &[u16], comparison: &Comparison) 
 
 // Whether a side is a constant, or a column of one of the atoms that its relation has.
 fn side_names<S: Source>(source: &S, atoms: &[u16], side: Side) -> bool
-    requires { S.Source.fine source.now }
     ensures { result ≡ side_names (S.Source.model source.now).arity atoms.now side }
 {
     match side {

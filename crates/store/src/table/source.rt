@@ -5,9 +5,10 @@ ghost use Rattle.store.specs.Rows.{arity_in};
 ghost use Rattle.store.specs.Tables.{table_model, VacantSays};
 
 use super::Table;
-use crate::arity::{arity_in, zero_from};
+use crate::admission::admit;
+use crate::arity::{arity_in, declared};
 use crate::refusal::Refusal;
-use crate::row::{Row, same};
+use crate::row::Row;
 use crate::source::Source;
 
 impl Table {
@@ -16,12 +17,8 @@ impl Table {
         ensures empty { (table_model result).places ≡ replicate 64 None }
         ensures arities { (relation : ℕ) → (table_model result).arity relation ≡ arity_in arities.now relation }
     {
-        let mut declared = [0; 16];
-        for relation in 0..16u16 {
-            declared[relation as usize] = arity_in(arities, relation);
-        }
         Table {
-            arities: declared,
+            arities: declared(arities),
             cells: [None; 64],
         }
     }
@@ -31,20 +28,13 @@ impl Table {
 fn vacant(cells: &[Option<Row>; 64]) -> Option<usize>
     ensures { VacantSays cells.now result }
 {
-    for (place, cell) in cells.iter().enumerate() {
-        if let None = cell {
-            return Some(place);
-        }
-    }
-    None
+    cells.iter().position(|cell| cell.is_none())
 }
 
 impl Source for Table {
     ghost model = { table_model };
 
-    ghost fine = { λ _. Unit {0} };
-
-    ghost keeps = { λ t _. table_keeps t };
+    ghost keeps = { table_keeps };
 
     ghost anchor = { λ _. 0 };
 
@@ -57,42 +47,22 @@ impl Source for Table {
     }
 
     fn read(&self, place: usize) -> Option<Row> {
-        if place < 64 { self.cells[place] } else { None }
+        *self.cells.get(place)?
     }
 
     fn find(&self, row: &Row) -> Option<usize> {
-        for (place, cell) in self.cells.iter().enumerate() {
-            if let Some(held) = cell {
-                if same(held, row) {
-                    return Some(place);
-                }
-            }
-        }
-        None
+        self.cells.iter().position(|cell| *cell == Some(*row))
     }
 
     fn put(&mut self, row: &Row) -> Result<usize, Refusal> {
-        let arity = self.arity(row.relation);
-        if arity == 0 {
-            return Err(Refusal::Undeclared);
-        }
-        if !zero_from(arity, &row.columns) {
-            return Err(Refusal::Unfit);
-        }
-        if let Some(_) = self.find(row) {
-            return Err(Refusal::AlreadyHeld);
-        }
-        let Some(place) = vacant(&self.cells) else {
-            return Err(Refusal::NoEmptyPlace);
-        };
+        admit(self.arity(row.relation), row, self.find(row))?;
+        let place = vacant(&self.cells).ok_or(Refusal::NoEmptyPlace)?;
         self.cells[place] = Some(*row);
         Ok(place)
     }
 
     fn strike(&mut self, row: &Row) -> Result<usize, Refusal> {
-        let Some(place) = self.find(row) else {
-            return Err(Refusal::NotHeld);
-        };
+        let place = self.find(row).ok_or(Refusal::NotHeld)?;
         self.cells[place] = None;
         Ok(place)
     }

@@ -1,14 +1,24 @@
 -- `retain` keeps what passes.
 use Rattle.std.proofs.Common.{sym, arith}
-use Rattle.ordered.proofs.Filtering.{filtered_in, filtered_out, filtered_all}
+use Rattle.std.proofs.lemmas.Fn.{says_at}
+use Rattle.std.proofs.lemmas.List.{length-take}
+use Rattle.ordered.proofs.Filtering.{filtered_none, filtered_in, filtered_out, filtered_all}
 use Rattle.ordered.proofs.removal.retain.Goals as goal
-use Rattle.ordered.proofs.removal.retain.Goals.{then-test, else-test}
+use Rattle.ordered.proofs.removal.retain.Goals.{then-keep, else-keep}
+
+pub loop-i-init : goal.loop-i-init
+loop-i-init g c = (omega arith, λ passes is. filtered_none)
 
 pub loop-i-preserved : goal.loop-i-preserved
-loop-i-preserved g c = elim c.if-test.branch [
-  | then-test w ↦ rw (w.items-is, w.passed-is) (filtered_in c.loop-i.invariant (omega arith) c.index-items-i.is (sym w.if-test.ensures))
-  | else-test w ↦ rw (w.items-is, w.passed-is) (filtered_out c.loop-i.invariant (omega arith) c.index-items-i.is (sym w.if-test.ensures))
-]
+loop-i-preserved g c =
+    let (few, so) = c.loop-i.invariant in
+    elim c.if-keep.branch [
+      | then-keep w ↦ rw (w.items-is, w.passed-is) (omega arith, λ passes is. filtered_in (so passes is) (omega arith) c.index-items-i.is (sym (is _ _ (says_at g.F.Fn c.keep.ensures w.if-keep.true))))
+      | else-keep w ↦ rw (w.items-is, w.passed-is) (omega arith, λ passes is. filtered_out (so passes is) (omega arith) c.index-items-i.is (sym (is _ _ (says_at g.F.Fn c.keep.ensures w.if-keep.false))))
+    ]
 
 pub returns : goal.returns
-returns g c = filtered_all c.args.count (omega arith) c.loop-i.invariant
+returns g c = record {
+  few = omega (arith, length-take c.args.count c.args.items.now);
+  kept = λ passes is. filtered_all c.args.count (omega arith) (c.loop-i.invariant.1 passes is);
+}

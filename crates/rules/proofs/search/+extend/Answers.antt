@@ -22,7 +22,7 @@ returns-then-atom-atom_count g t c =
 pub choose-requires : goal.choose-requires
 choose-requires g t c =
     let long = begins_long (g.S.Source.model c.args.source.now).places (denial c.args.rule.now) (places_in c.args.chosen) c.requires.begun.begun in
-    record { fine = c.requires.fine; begun = c.requires.begun; room = omega (arith, long, c.len-atom.ensures, c.atom_count.ensures, c.if-atom-atom_count.false) }
+    record { begun = c.requires.begun; room = omega (arith, long, c.len-atom.ensures, c.atom_count.ensures, c.if-atom-atom_count.false) }
 
 pub extend-requires : goal.extend-requires
 extend-requires g t c κs within =
@@ -30,7 +30,7 @@ extend-requires g t c κs within =
     let told = c.in-Some.ensures in
     let few = rule_few c.args.rule.now in
     let more = ap length told.0 ∙ length_push (places_in c.args.chosen) c.loop-place.place in
-    (search rules, (search rules, (c.requires.fine, told.1)))
+    (search rules, (search rules, told.1))
 
 pub returns-in_err-extend : goal.returns-in_err-extend
 returns-in_err-extend g t c =

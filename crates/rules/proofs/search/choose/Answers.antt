@@ -22,13 +22,13 @@ returns-then-row-relation g c =
 
 pub overflow_cast-place : goal.overflow_cast-place
 overflow_cast-place g c =
-    let kept = g.S.Source.keeps c.args.source.now c.requires.fine in
+    let kept = g.met.S.Source.keeps c.args.source.now in
     let near = inside (g.S.Source.model c.args.source.now).places c.args.place c.in-Some.row (sym c.in-Some.ensures) in
     omega (arith, kept.few, near)
 
 pub returns-then-holds_at_last : goal.returns-then-holds_at_last
 returns-then-holds_at_last g c =
-    let kept = g.S.Source.keeps c.args.source.now c.requires.fine in
+    let kept = g.met.S.Source.keeps c.args.source.now in
     let rule = denial c.args.rule.now in
     let atom = c.relation.ensures ∙ ap (λ n. get_or rule.atoms n 0) c.len.ensures in
     let last = sym (ap (λ l. all (holds_at_last l) rule.comparisons) c.rows.ensures) ∙ sym c.if-holds_at_last.ensures in (

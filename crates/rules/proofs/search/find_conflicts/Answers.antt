@@ -12,7 +12,6 @@ extend-requires g c =
     let table = (g.S.Source.model c.args.source.now).places in
     let rule = denial c.args.rule.now in
     record {
-      fine = c.requires;
       begun = record { rows = c.none.ensures.rows ∙ sym (ap (rows_at table) c.none.ensures.places); begun = ap (begins table rule) c.none.ensures.places ∙ begins_none table rule };
     }
 

@@ -13,7 +13,7 @@ use Rattle.rules.proofs.upkeep.add_each.Goals as goal
 pub returns-in_err-add_share : goal.returns-in_err-add_share
 returns-in_err-add_share g c =
     let table = (g.S.Source.model c.args.source.now).places in
-    let once = (g.S.Source.keeps c.args.source.now c.requires.fine).once in
+    let once = (g.met.S.Source.keeps c.args.source.now).once in
     let rules = c.args.rules.now in
     let rule = c.index-rules-number.result in
     let k = c.loop-number.number in
@@ -29,7 +29,7 @@ returns-in_err-add_share g c =
 pub loop-number-preserved : goal.loop-number-preserved
 loop-number-preserved g c =
     let table = (g.S.Source.model c.args.source.now).places in
-    let once = (g.S.Source.keeps c.args.source.now c.requires.fine).once in
+    let once = (g.met.S.Source.keeps c.args.source.now).once in
     let rules = c.args.rules.now in
     let rule = c.index-rules-number.result in
     let k = c.loop-number.number in

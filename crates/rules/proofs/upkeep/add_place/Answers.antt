@@ -11,7 +11,7 @@ use Rattle.rules.proofs.upkeep.add_place.Goals as goal
 pub returns-in_default : goal.returns-in_default
 returns-in_default g c =
     let table = (g.S.Source.model c.args.source.now).places in
-    let once = (g.S.Source.keeps c.args.source.now c.requires.fine).once in
+    let once = (g.met.S.Source.keeps c.args.source.now).once in
     let rules = map denial c.args.rules.now in
     let list = c.args.list.now in
     let exact = subst (λ t. Lists (is_conflict t rules) (listing list)) (empty_already table c.args.place (sym c.in_default.ensures)) c.requires.exact in
@@ -19,7 +19,7 @@ returns-in_default g c =
 
 pub overflow_cast-place : goal.overflow_cast-place
 overflow_cast-place g c =
-    let kept = g.S.Source.keeps c.args.source.now c.requires.fine in
+    let kept = g.met.S.Source.keeps c.args.source.now in
     let near = inside (g.S.Source.model c.args.source.now).places c.args.place c.in-Some.row (sym c.in-Some.ensures) in
     omega (arith, kept.few, near)
 
@@ -28,7 +28,6 @@ add_each-added-requires g c =
     let table = (g.S.Source.model c.args.source.now).places in
     let p = c.args.place in
     record {
-      fine = c.requires.fine;
       few = c.requires.few;
       stands = sym c.in-Some.ensures;
       others = put_starts (set table p None) table p (others_alike table p) (emptied table p) (map denial c.args.rules.now) (listing c.args.list.now) c.requires.exact;
@@ -47,6 +46,6 @@ returns-in-Err g c =
 pub returns-in_default-added : goal.returns-in_default-added
 returns-in_default-added g c =
     let table = (g.S.Source.model c.args.source.now).places in
-    let once = (g.S.Source.keeps c.args.source.now c.requires.fine).once in
+    let once = (g.met.S.Source.keeps c.args.source.now).once in
     let exact = c.in_default-added.ensures in
     rw c.in_default-added.is (exact, fits_list table once (map denial c.args.rules.now) c.add_each-added.new.list exact)

@@ -10,7 +10,7 @@ use Rattle.rules.proofs.upkeep.add_rule.Goals as goal
 pub returns-in-Err : goal.returns-in-Err
 returns-in-Err g c =
     let table = (g.S.Source.model c.args.source.now).places in
-    let once = (g.S.Source.keeps c.args.source.now c.requires.fine).once in
+    let once = (g.met.S.Source.keeps c.args.source.now).once in
     let rules = map denial c.args.rules.now in
     let rule = denial c.args.rule.now in
     let last = sym (length-map c.args.rules.now denial) in
@@ -25,7 +25,7 @@ returns-in-Err g c =
 pub returns-in_default : goal.returns-in_default
 returns-in_default g c =
     let table = (g.S.Source.model c.args.source.now).places in
-    let once = (g.S.Source.keeps c.args.source.now c.requires.fine).once in
+    let once = (g.met.S.Source.keeps c.args.source.now).once in
     let rules = map denial c.args.rules.now in
     let rule = denial c.args.rule.now in
     let after = c.find_conflicts-added.new.list in

@@ -1,4 +1,4 @@
-use Rattle.std.proofs.Common.{◌≡◌, ℕ, true, List, Some, None, sym, refl, ap, ◌∙◌, subst, arith}
+use Rattle.std.proofs.Common.{◌≡◌, ℕ, true, List, is_some, Some, None, sym, refl, ap, ◌∙◌, subst, arith}
 use Rattle.std.proofs.lemmas.Bool.{lt-ltb}
 use Rattle.store.specs.Rows.{zero_from}
 use Rattle.store.specs.Store.{declares, ends_in_zeros, is_empty}
@@ -11,6 +11,7 @@ use Rattle.page.specs.Records.{record_of}
 use Rattle.page.specs.Sources.{page_model}
 use Rattle.page.proofs.Kept.{page_put, places_put}
 use Rattle.page.proofs.Pages.{length_places}
+use Rattle.page.proofs.Standing.{is_page}
 use Rattle.page.proofs.source.PageSource.put.Goals as goal
 use Rattle.page.proofs.source.PageSource.put.Goals.{Else-not-zero_from}
 
@@ -26,13 +27,13 @@ returns-in-Some c =
     let p = c.args.self.now in
     let row = c.args.row.now in
     let so = (goal.at.returns-in-Some c).Else-not-zero_from in
-    record { fine = c.requires; anchor = refl; says = (refl, already (page_model p) row (declared so) (ends so) (held_at (places_of p.bytes.now) _ row c.in-Some.ensures.1)) }
+    record { anchor = refl; says = (refl, already (page_model p) row (declared so) (ends so) (held_at (places_of p.bytes.now) _ row c.in-Some.ensures.1)) }
 
 pub returns-in_default-vacant : goal.returns-in_default-vacant
 returns-in_default-vacant c =
     let p = c.args.self.now in
     let so = (goal.at.returns-in_default-vacant c).Else-not-zero_from in
-    record { fine = c.requires; anchor = refl; says = (refl, full (page_model p) c.args.row.now (declared so) (ends so) c.in_default.ensures c.in_default-vacant.ensures) }
+    record { anchor = refl; says = (refl, full (page_model p) c.args.row.now (declared so) (ends so) c.in_default.ensures c.in_default-vacant.ensures) }
 
 pub write_record-requires : goal.write_record-requires
 write_record-requires c = omega (arith, c.in-Some-vacant.ensures.0, length_places c.args.self.now.bytes.now)
@@ -50,7 +51,17 @@ returns c =
     let some_empty = any_here is_empty (places_of bytes) place None inside (ap is_empty none) in
     let anew : c.write_record.new.bytes ≡ written bytes place (record_of (Some row)) = c.write_record.ensures ∙ ap (written bytes place) c.encode-record.ensures.bytes in
     record {
-      fine = subst (λ (bs : List ℕ). IsPage bs p.arities) (sym anew) (page_put bytes p.arities c.requires place inside row proper (declared so) (ends so) free);
       anchor = refl;
-      says = record { granted = granted (page_model p) row (declared so) (ends so) free some_empty; inside = inside; empty = none; arities = refl; stands = ap places_of anew ∙ places_put bytes p.arities c.requires place inside row proper };
+      says = record { granted = granted (page_model p) row (declared so) (ends so) free some_empty; inside = inside; empty = none; arities = refl; stands = ap places_of anew ∙ places_put bytes p.arities (is_page p) place inside row proper };
     }
+
+pub invariant_of-self : goal.invariant_of-self
+invariant_of-self c =
+    let p = c.args.self.now in
+    let bytes = p.bytes.now in
+    let row = c.args.row.now in
+    let place = c.in-Some-vacant.place in
+    let so = (goal.at.invariant_of-self c).Else-not-zero_from in
+    let anew : c.write_record.new.bytes ≡ written bytes place (record_of (Some row)) = c.write_record.ensures ∙ ap (written bytes place) c.encode-record.ensures.bytes in
+    let page = subst (λ (bs : List ℕ). IsPage bs p.arities) (sym anew) (page_put bytes p.arities (is_page p) place c.in-Some-vacant.ensures.0 row c.encode-record.ensures.proper (declared so) (ends so) c.in_default.ensures) in
+    record { passes = ap is_some page.passes; whole = page.whole; few = page.kept.few; fit = page.kept.fit; once = page.kept.once }

@@ -1,12 +1,8 @@
-use Rattle.std.proofs.Common.{None, sym, ap, ◌∙◌, arith}
-use Rattle.std.proofs.lemmas.List.{at_drop_all}
-use Rattle.store.specs.Lists.{any}
+use Rattle.std.proofs.Common.{rules}
 use Rattle.store.specs.Store.{is_empty}
-use Rattle.store.proofs.Scans.{any_past}
+use Rattle.store.proofs.Firsts.{first_from_position}
+use Rattle.store.proofs.Looked.{vacant_at}
 use Rattle.store.proofs.table.source.vacant.Goals as goal
 
-pub loop-place-preserved : goal.loop-place-preserved
-loop-place-preserved c = any_past is_empty c.args.cells.now c.loop-place.place None (omega arith) (ap is_empty c.in_default.is) ∙ c.loop-place.invariant
-
 pub returns : goal.returns
-returns c = sym c.loop-place.invariant ∙ at_drop_all (any is_empty) c.args.cells.now c.loop-place.place (omega arith)
+returns c = vacant_at c.args.cells.now _ (first_from_position is_empty c.args.cells.now c.position.ensures.ran c.iter.ensures.rest (λ x b q k. search rules))

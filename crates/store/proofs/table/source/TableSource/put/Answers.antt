@@ -1,41 +1,25 @@
-use Rattle.std.proofs.Common.{◌≡◌, true, None, sym, refl, ap, ◌∙◌, arith, length-set}
-use Rattle.std.proofs.lemmas.Bool.{lt-ltb}
-use Rattle.store.specs.Rows.{zero_from}
-use Rattle.store.specs.Store.{declares, ends_in_zeros, is_empty}
-use Rattle.store.specs.Tables.{table_model}
-use Rattle.store.proofs.Asked.{already, granted}
-use Rattle.store.proofs.Places.{held_at, once_put, fit_put}
-use Rattle.store.proofs.Scans.{any_here}
+use Rattle.std.proofs.Common.{Err, is_some, sym, refl, ap, ◌∙◌, subst, length-set}
+use Rattle.std.specs.Result.{result_err, result_ok}
+use Rattle.std.proofs.lemmas.Result.{err_from_is_err_and}
+use Rattle.store.specs.Store.{PutSays, admission}
+use Rattle.store.specs.Tables.{table_model, VacantSays}
+use Rattle.store.proofs.Asked.{barred, admitted}
+use Rattle.store.proofs.Places.{fit_put, once_put}
 use Rattle.store.proofs.table.source.TableSource.put.Goals as goal
-use Rattle.store.proofs.table.source.TableSource.put.Goals.{Else-not-zero_from}
 
--- the first two questions were answered Yes
-declared : (c : Else-not-zero_from) → declares (table_model c.args.self.now) c.args.row.now ≡ true
-declared c = lt-ltb 0 _ (let e = c.arity-arity.ensures in omega (arith, c.if-arity-eq0.false))
-
-ends : (c : Else-not-zero_from) → ends_in_zeros (table_model c.args.self.now) c.args.row.now ≡ true
-ends c = ap (λ n. zero_from n c.args.row.now.columns) (sym c.arity-arity.ensures) ∙ sym c.if-not-zero_from.ensures
-
-pub returns-in-Some : goal.returns-in-Some
-returns-in-Some c =
-    let t = c.args.self.now in
+pub returns-in_err-admit-clause-says : goal.returns-in_err-admit-clause-says
+returns-in_err-admit-clause-says c =
+    let s = table_model c.args.self.now in
     let row = c.args.row.now in
-    let so = (goal.at.returns-in-Some c).Else-not-zero_from in
-    record { fine = tt; anchor = refl; says = (refl, already (table_model t) row (declared so) (ends so) (held_at t.cells _ row c.in-Some.ensures.1)) }
+    let p = err_from_is_err_and c.from_residual.result c.from_residual.ensures.1 in
+    let asked = ap (λ n. admission n row (is_some c.find.result)) (sym c.arity.ensures) ∙ sym c.admit.ensures ∙ ap result_err c.in_err-admit.was in
+    subst (PutSays s s row) (sym (p.1 ∙ ap Err p.2)) (refl, barred s row c.find.result c.find.ensures _ asked)
 
 pub invariant_of-self : goal.invariant_of-self
 invariant_of-self c =
     let t = c.args.self.now in
     let row = c.args.row.now in
-    let so = (goal.at.invariant_of-self c).Else-not-zero_from in
-    let in_cells = c.in-Some-vacant.ensures.0 in
-    record { sized = length-set t.cells _ _ ∙ t.sized; fit = fit_put t.cells _ in_cells t.arities row (declared so) (ends so) t.fit; once = once_put t.cells _ in_cells row c.in_default.ensures t.once }
-
-pub returns : goal.returns
-returns c =
-    let t = c.args.self.now in
-    let row = c.args.row.now in
-    let so = (goal.at.returns c).Else-not-zero_from in
-    let (in_cells, none) = c.in-Some-vacant.ensures in
-    let some_empty = any_here is_empty t.cells _ None in_cells (ap is_empty none) in
-    record { fine = tt; anchor = refl; says = record { granted = granted (table_model t) row (declared so) (ends so) c.in_default.ensures some_empty; inside = in_cells; empty = none; arities = refl; stands = refl } }
+    let asked = ap (λ n. admission n row (is_some c.find.result)) (sym c.arity.ensures) ∙ sym c.admit.ensures ∙ ap result_err c.in_ok-admit.was in
+    let (declared, ends, free) = admitted (table_model t) row c.find.result c.find.ensures asked in
+    let inside = (subst (VacantSays t.cells) (c.ok_or.ensures.ok_part ∙ ap result_ok c.in_ok-place.was) c.vacant.ensures).0 in
+    record { sized = length-set t.cells _ _ ∙ t.sized; fit = fit_put t.cells _ inside t.arities row declared ends t.fit; once = once_put t.cells _ inside row free t.once }
