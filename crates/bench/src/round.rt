@@ -1,12 +1,10 @@
 // One round over any source: fill it, take the rule, empty it and fill it again.
-ghost use Rattle.book.specs.Books.{Sound};
-
 use crate::costs::Costs;
 use crate::load::Load;
 use crate::trouble::Trouble;
 use book::{Book, Refusal};
 use std::time::Instant;
-use store::Source;
+use store::{Row, Source};
 
 const NANOSECONDS: f64 = 1000000000.0;
 
@@ -16,19 +14,17 @@ pub fn round<S: Source + Drop>(
     source: S,
     load: Load,
     rows: u32,
-) -> Result<Costs, Trouble>
-    requires { S.Source.fine source }
-{
+) -> Result<Costs, Trouble> {
     let mut book = Book::open(source);
-    fill(&mut book, load, rows)?;
+    each_row(load, rows, |row| book.entry(&row))?;
     let start = Instant::now(rt)?;
     book.rule(load.atoms(), &load.comparisons())?;
     let rule = start.elapsed(rt)?;
     let start = Instant::now(rt)?;
-    empty(&mut book, load, rows)?;
+    each_row(load, rows, |row| book.strike(&row))?;
     let strikes = start.elapsed(rt)?;
     let start = Instant::now(rt)?;
-    fill(&mut book, load, rows)?;
+    each_row(load, rows, |row| book.entry(&row))?;
     let entries = start.elapsed(rt)?;
     Ok(Costs {
         entry: entries.as_secs_f64() * NANOSECONDS / f64::from(rows),
@@ -37,24 +33,16 @@ pub fn round<S: Source + Drop>(
     })
 }
 
-// Enters the first so many rows of a load.
-fn fill<S: Source>(book: &mut Book<S>, load: Load, rows: u32) -> Result<(), Refusal>
-    requires { Sound S.Source.model S.Source.fine book.old }
-    ensures sound { Sound S.Source.model S.Source.fine book.new }
+// Does a call with each of the first so many rows of a load.
+fn each_row<F: FnMut(Row) -> Result<usize, Refusal>>(
+    load: Load,
+    rows: u32,
+    mut call: F,
+) -> Result<(), Refusal>
+    requires { F.IsAlwaysCallable call }
 {
     for number in 0..rows {
-        book.entry(&load.row(number))?;
-    }
-    Ok(())
-}
-
-// Strikes the first so many rows of a load.
-fn empty<S: Source>(book: &mut Book<S>, load: Load, rows: u32) -> Result<(), Refusal>
-    requires { Sound S.Source.model S.Source.fine book.old }
-    ensures sound { Sound S.Source.model S.Source.fine book.new }
-{
-    for number in 0..rows {
-        book.strike(&load.row(number))?;
+        call(load.row(number))?;
     }
     Ok(())
 }

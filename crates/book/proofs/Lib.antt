@@ -5,4 +5,5 @@ pub mod Opening
 mod Reading
 pub mod Running
 pub mod Tested
+mod Told
 pub mod Upheld

@@ -1,6 +1,6 @@
 -- The list is exact again after a call.
-use Rattle.std.proofs.Common.{◌≡◌, ℕ, ◌+◌, ◌<◌, ◌≤◌, List, [], ◌∷◌, ◌++◌, map, length, get_or, take, set, is_some, Some, None, Ok, Err, Option, Result, sym, ap, ◌∙◌, subst, arith}
-use Rattle.std.proofs.lemmas.List.{set-set, set-get_or, get_or-set_same, length-map, length-take, length-take-le, take_more_set, map_push}
+use Rattle.std.proofs.Common.{◌≡◌, ℕ, ◌≤◌, List, ◌∷◌, length, get_or, set, is_some, Some, None, Ok, Err, Option, Result, sym, ap, ◌∙◌, subst, arith}
+use Rattle.std.proofs.lemmas.List.{set-set, set-get_or, get_or-set_same, length-map, length-take}
 use Rattle.std.proofs.lemmas.Bool.{le-leb}
 use Rattle.store.specs.Places.{OnceIn}
 use Rattle.store.specs.Store.{Store, Put, Struck, StrikeSays, strike_refusal}
@@ -14,11 +14,12 @@ use Rattle.rules.specs.Rules.{Denial, denial, AtMost}
 use Rattle.rules.specs.Sets.{among}
 use Rattle.rules.specs.Views.{listed_as}
 use Rattle.rules.specs.declared.list.Conflicts.{Conflicts}
-use Rattle.rules.specs.declared.rule.Rule.{Rule}
 use Rattle.rules.proofs.Counting.{counted}
 use Rattle.rules.proofs.Holding.{put_rows}
 use Rattle.rules.proofs.SameHeld.{same_members}
-use Rattle.book.specs.Books.{rules_of}
+use Rattle.ordered.specs.Lists.{items_in}
+use Rattle.ordered.specs.declared.entry.Full.{Full as TooFull}
+use Rattle.book.specs.Books.{rules_of, Exact, RuledSays}
 use Rattle.book.specs.declared.log.Log.{Log}
 
 -- a place that was empty and had a row put is as it was once it is emptied
@@ -44,7 +45,7 @@ put_back s s' s'' row p q put once struck =
 
 -- a list of conflicts in its array has at most 1,024
 pub within : (l : Conflicts) → length (listing l) ≤ 1024
-within l = omega (arith, length-map (take l.count l.items) listed_as, length-take l.count l.items, l.within)
+within l = omega (arith, length-map (items_in l.items) listed_as, length-take l.items.count l.items.items, l.items.within)
 
 -- so there are at most that many
 pub few_listed : (s : Store) → OnceIn s.places → (rules : List Denial) (l : Conflicts) → Lists (is_conflict s.places rules) (listing l) → AtMost 1024 (rows_of s.places) rules
@@ -65,9 +66,11 @@ module _ (s s' s'' : Store) (row : Row) (p : ℕ) (put : Put s s' row p) where
       (λ r. sym (ap (λ places. among (rows_of places) r) put.stands ∙ put_rows s.places p row put.inside put.empty r)) rules).0 1024 few)
 
 -- the rules of a log are as many as it counts
-pub how_many : (log : Log) → length (rules_of log) ≡ log.rule_count
-how_many log = length-map (take log.rule_count log.rules) denial ∙ length-take-le log.rule_count log.rules (omega (arith, log.sixteen, log.few))
+pub how_many : (log : Log) → length (rules_of log) ≡ length (items_in log.rules)
+how_many log = length-map (items_in log.rules) denial
 
--- a rule more
-pub one_rule_more : (rules : List Rule) (n : ℕ) (rule : Rule) → n < length rules → map denial (take (n + 1) (set rules n rule)) ≡ map denial (take n rules) ++ (denial rule ∷ [])
-one_rule_more rules n rule lt = ap (map denial) (take_more_set rules n rule lt) ∙ map_push denial (take n rules) rule
+-- the list is exact after a rule is asked for, whether it was taken or not
+pub still_exact : (s : Store) (before after : Log) (rule : Denial) (r : Result Unit TooFull) → RuledSays s before after rule r → Exact s before → Exact s after
+still_exact s before after rule (Ok _) says exact = says.1
+still_exact s before after rule (Err _) says exact =
+    subst (λ (rs : List Denial). Lists (is_conflict s.places rs) (listing after.conflicts)) (sym says.0) (subst (λ (l : List Listed). Lists (is_conflict s.places (rules_of before)) l) (sym says.1) exact)

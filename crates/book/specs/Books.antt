@@ -1,5 +1,6 @@
 -- A book: its rules, and that its list has each conflict once and nothing more.
-use Rattle.std.specs.Prelude.{◌≡◌, Bool, true, ◌&&◌, List, [], ◌∷◌, ◌++◌, map, take, Ok, Err, Result, ◌==◌}
+use Rattle.std.specs.Prelude.{◌≡◌, Bool, true, ◌&&◌, List, [], ◌∷◌, ◌++◌, map, Ok, Err, Result, ◌==◌}
+use Rattle.ordered.specs.Lists.{items_in}
 use Rattle.ordered.specs.declared.entry.Full.{Full as TooFull}
 use Rattle.store.specs.Lists.{any}
 use Rattle.store.specs.Store.{Store}
@@ -8,21 +9,15 @@ use Rattle.store.specs.Held.{rows_of}
 use Rattle.rules.specs.Listing.{Listed, Lists, is_conflict, same_places}
 use Rattle.rules.specs.Rules.{Denial, denial, AtMost}
 use Rattle.rules.specs.Sets.{distinct}
-use Rattle.book.specs.declared.book.Book.{Book}
 use Rattle.book.specs.declared.log.Log.{Log}
 
 -- the rules as they were taken
 abbrev pub rules_of : Log → List Denial
-rules_of log = map denial (take log.rule_count log.rules)
+rules_of log = map denial (items_in log.rules)
 
 -- the list of a log is the conflicts of the rows at these places under its rules: each once, and nothing more
 abbrev pub Exact : Store → Log → Type 0
 Exact s log = Lists (is_conflict s.places (rules_of log)) (listing log.conflicts)
-
--- a book whose source is fine and whose list is exact
-pub record Sound {S : Type 0} (model : S → Store) (fine : S → Type 0) (book : Book S) : Type 0 where
-  pub ready : fine book.source
-  pub exact : Exact (model book.source) book.log
 
 -- a rule is put last and the list is exact with it; or there are more than 1,024 conflicts, and rules and list are as they were
 abbrev pub RuledSays : Store → Log → Log → Denial → Result Unit TooFull → Type 0

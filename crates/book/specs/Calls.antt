@@ -7,8 +7,8 @@ use Rattle.rules.specs.Refusals.{rule_refusal}
 use Rattle.rules.specs.Rules.{Denial, AtMost}
 use Rattle.book.specs.Plain.{Asked, entering, striking, ruling, Told, taken, ruled, refused, most}
 use Rattle.book.specs.Refusals.{notice_of}
-use Rattle.book.specs.declared.call.Outcome.{Outcome}
-use Rattle.book.specs.declared.call.Outcome.TheVariants.{Taken, Ruled, Refused}
+use Rattle.book.specs.declared.call.Done.{Done}
+use Rattle.book.specs.declared.call.Done.TheVariants.{Taken, Ruled}
 use Rattle.book.specs.declared.refusal.Refusal.{Refusal}
 use Rattle.book.specs.declared.refusal.Refusal.TheVariants.{Source, EntryConflicts, TooManyRules, Rule, RuleConflicts, NoSuchConflict, Unanswered}
 
@@ -58,13 +58,13 @@ ruled_by (Ok n) = ruled n
 ruled_by (Err e) = refused (notice_of e).number
 
 -- what one step promises of the source and the rules, whichever call it was
-abbrev pub StepSays : Store → List Denial → Store → List Denial → Asked → Outcome → Type 0
-StepSays s rules s' rules' (entering row) Taken = ((p : ℕ) × EntrySays s s' rules row (Ok p)) × (rules' ≡ rules)
-StepSays s rules s' rules' (entering row) (Ruled n) = ⊥
-StepSays s rules s' rules' (entering row) (Refused e) = EntrySays s s' rules row (Err e) × (rules' ≡ rules)
-StepSays s rules s' rules' (striking row) Taken = ((p : ℕ) × StrikingSays s s' row (Ok p)) × (rules' ≡ rules)
-StepSays s rules s' rules' (striking row) (Ruled n) = ⊥
-StepSays s rules s' rules' (striking row) (Refused e) = StrikingSays s s' row (Err e) × (rules' ≡ rules)
-StepSays s rules s' rules' (ruling rule) Taken = ⊥
-StepSays s rules s' rules' (ruling rule) (Ruled n) = RuleSays s rules rules' rule (Ok n) × (s' ≡ s)
-StepSays s rules s' rules' (ruling rule) (Refused e) = RuleSays s rules rules' rule (Err e) × (s' ≡ s)
+abbrev pub StepSays : Store → List Denial → Store → List Denial → Asked → Result Done Refusal → Type 0
+StepSays s rules s' rules' (entering row) (Ok Taken) = ((p : ℕ) × EntrySays s s' rules row (Ok p)) × (rules' ≡ rules)
+StepSays s rules s' rules' (entering row) (Ok (Ruled n)) = ⊥
+StepSays s rules s' rules' (entering row) (Err e) = EntrySays s s' rules row (Err e) × (rules' ≡ rules)
+StepSays s rules s' rules' (striking row) (Ok Taken) = ((p : ℕ) × StrikingSays s s' row (Ok p)) × (rules' ≡ rules)
+StepSays s rules s' rules' (striking row) (Ok (Ruled n)) = ⊥
+StepSays s rules s' rules' (striking row) (Err e) = StrikingSays s s' row (Err e) × (rules' ≡ rules)
+StepSays s rules s' rules' (ruling rule) (Ok Taken) = ⊥
+StepSays s rules s' rules' (ruling rule) (Ok (Ruled n)) = RuleSays s rules rules' rule (Ok n) × (s' ≡ s)
+StepSays s rules s' rules' (ruling rule) (Err e) = RuleSays s rules rules' rule (Err e) × (s' ≡ s)

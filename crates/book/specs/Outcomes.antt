@@ -1,5 +1,5 @@
 -- Calls and their outcomes, in the words of the plain book.
-use Rattle.std.specs.Prelude.{◌≡◌, List, [], ◌∷◌, ◌++◌}
+use Rattle.std.specs.Prelude.{◌≡◌, List, [], ◌∷◌, ◌++◌, Ok, Err, Result}
 use Rattle.store.specs.Store.{Store}
 use Rattle.rules.specs.Rules.{Denial}
 use Rattle.book.specs.Plain.{Asked, entering, striking, ruling, Told, taken, ruled, refused}
@@ -7,8 +7,9 @@ use Rattle.book.specs.Refusals.{notice_of}
 use Rattle.book.specs.Runs.{History, opening, more, opened, Life}
 use Rattle.book.specs.declared.call.Call.{Call}
 use Rattle.book.specs.declared.call.Call.TheVariants.{Enter, Strike, Rule}
-use Rattle.book.specs.declared.call.Outcome.{Outcome}
-use Rattle.book.specs.declared.call.Outcome.TheVariants.{Taken, Ruled, Refused}
+use Rattle.book.specs.declared.call.Done.{Done}
+use Rattle.book.specs.declared.call.Done.TheVariants.{Taken, Ruled}
+use Rattle.book.specs.declared.refusal.Refusal.{Refusal}
 
 -- what a call asks
 abbrev pub asked_by : Call → Asked
@@ -17,10 +18,10 @@ asked_by (Strike row) = striking row
 asked_by (Rule atoms comparisons) = ruling (record { atoms = atoms.now; comparisons = comparisons.now })
 
 -- what an outcome tells: a refusal by its number
-abbrev pub told_of : Outcome → Told
-told_of Taken = taken
-told_of (Ruled n) = ruled n
-told_of (Refused e) = refused (notice_of e).number
+abbrev pub told_of : Result Done Refusal → Told
+told_of (Ok Taken) = taken
+told_of (Ok (Ruled n)) = ruled n
+told_of (Err e) = refused (notice_of e).number
 
 -- the history h, with these calls and what was told of each, is the history after
 abbrev pub Ran : History → List Asked → List Told → History → Type 0

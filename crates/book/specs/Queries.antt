@@ -1,6 +1,7 @@
 -- What a book tells of its conflicts, and of plain answers.
-use Rattle.std.specs.Prelude.{◌≡◌, ℕ, ◌<◌, ◌≤◌, Bool, List, length, take, Some, Ok, Err, Option, Result}
+use Rattle.std.specs.Prelude.{◌≡◌, ℕ, ◌<◌, ◌≤◌, Bool, List, length, Some, Ok, Err, Option, Result}
 use Rattle.std.specs.List.{slice_get}
+use Rattle.ordered.specs.Lists.{items_in}
 use Rattle.store.specs.Store.{Store}
 use Rattle.store.specs.declared.row.Row.{Row}
 use Rattle.store.specs.Held.{rows_of}
@@ -20,7 +21,7 @@ pub record Counts (s : Store) (rules : List Denial) (n : ℕ) : Type 0 where
 
 -- what is told is a listed conflict: its rows, in order of place, and its rule
 pub record Tells (places : List (Option Row)) (c : Listed) (told : Forbidden) : Type 0 where
-  pub rows : take told.count told.rows ≡ rows_at places c.places
+  pub rows : items_in told.rows ≡ rows_at places c.places
   pub rule : told.rule ≡ c.rule
 
 -- the conflict with a number below the count is told, and any other number is refused

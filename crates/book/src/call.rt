@@ -13,11 +13,13 @@ pub enum Call<'a> {
     },
 }
 
+// What a call did that was not refused.
 #[derive(Clone, Copy)]
-pub enum Outcome {
+pub enum Done {
     // A row was entered or struck.
     Taken,
     // A rule was taken, with this number.
     Ruled(usize),
-    Refused(Refusal),
 }
+
+pub type Outcome = Result<Done, Refusal>;

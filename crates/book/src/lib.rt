@@ -16,7 +16,7 @@ mod refusal;
 mod runs;
 
 pub use book::Book;
-pub use call::{Call, Outcome};
+pub use call::{Call, Done, Outcome};
 pub use forbidden::Forbidden;
 pub use log::Log;
 pub use recorder::Recorder;

@@ -23,19 +23,19 @@ pub enum Refusal {
     Unanswered(answers::Refusal),
 }
 
-impl Refusal {
-    // The number, layer and position that the refusing layer tells.
-    pub fn notice(self) -> Notice
-        ensures { result ≡ notice_of self }
-    {
-        match self {
-            Refusal::Source(refusal) => refusal.notice(),
+// The number, layer and position that the refusing layer tells.
+impl From<Refusal> for Notice {
+    ghost from_gives = { λ refusal notice. notice ≡ notice_of refusal };
+
+    fn from(refusal: Refusal) -> Notice {
+        match refusal {
+            Refusal::Source(refusal) => Notice::from(refusal),
             Refusal::EntryConflicts => Notice::new(15, 0),
             Refusal::TooManyRules => Notice::new(21, 0),
-            Refusal::Rule(refusal) => refusal.notice(),
+            Refusal::Rule(refusal) => Notice::from(refusal),
             Refusal::RuleConflicts => Notice::new(25, 0),
             Refusal::NoSuchConflict => Notice::new(46, 0),
-            Refusal::Unanswered(refusal) => refusal.notice(),
+            Refusal::Unanswered(refusal) => Notice::from(refusal),
         }
     }
 }

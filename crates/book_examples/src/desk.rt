@@ -1,18 +1,13 @@
 // A desk: a book over a table of the rink's relations.
-ghost use Rattle.store.specs.Tables.{table_model};
-ghost use Rattle.book.specs.Books.{Right, Full, Once};
-
 use book::Book;
 use store::Table;
 
-pub mod calls;
+pub type Desk = Book<Table>;
 
-// The book's list of conflicts is exact: each that it has is one of the rows and rules, it has each of
-// these, and none twice.
-#[derive(Drop)]
-pub struct Desk {
-    book: Book<Table>,
-    ghost right: { Right (table_model book.source) book.log },
-    ghost full: { Full (table_model book.source) book.log },
-    ghost once: { Once book.log },
+// Relation 3 has three columns, and 0, 1, 2 and 4 have two.
+const ARITIES: [u8; 5] = [2, 2, 2, 3, 2];
+
+// A desk with no rows and no rules.
+pub fn open_desk() -> Desk {
+    Book::open(Table::new(&ARITIES))
 }

@@ -1,26 +1,26 @@
 // The most rows, rules and conflicts.
-use crate::desk::Desk;
+use crate::desk::{Desk, open_desk};
 use crate::telling;
 use crate::written::{always, enter_parties, one_club, party, row};
 use book::Refusal;
 use std::io;
 
 pub fn full_table(rt: &HostRuntime) -> io::Result<()> {
-    let mut desk = Desk::new();
+    let mut desk = open_desk();
     let entered = enter_parties(&mut desk, 64);
     telling::call(rt, "64 rows", entered)?;
-    let refused = desk.enter(&party(1, 9, 64));
+    let refused = desk.entry(&party(1, 9, 64));
     telling::call(rt, "the 65th row", refused)
 }
 
 // 46 parties are 1,035 pairs, so the rule is refused, and the rules and the conflicts stay.
 pub fn conflicts_of_a_rule(rt: &HostRuntime) -> io::Result<()> {
-    let mut desk = Desk::new();
+    let mut desk = open_desk();
     let entered = enter_parties(&mut desk, 46);
     telling::call(rt, "46 parties, no rule", entered)?;
     let ruled = desk.rule(&[1], &[]);
     telling::call(rt, "no row of relation 1", ruled)?;
-    let held = desk.enter(&row(1, 1, 9));
+    let held = desk.entry(&row(1, 1, 9));
     telling::call(rt, "a row of relation 1", held)?;
     counts(rt, "before the rule", &desk)?;
     let refused = desk.rule(&[3, 3], &one_club());
@@ -29,13 +29,13 @@ pub fn conflicts_of_a_rule(rt: &HostRuntime) -> io::Result<()> {
 }
 
 fn counts(rt: &HostRuntime, shown: &str, desk: &Desk) -> io::Result<()> {
-    let rules = desk.rules();
+    let rules = desk.log.rules.len();
     let conflicts = desk.conflicts();
     println!(rt; "{shown}: rules {rules}, conflicts {conflicts}")
 }
 
 pub fn sixteen_rules(rt: &HostRuntime) -> io::Result<()> {
-    let mut desk = Desk::new();
+    let mut desk = open_desk();
     let ruled = sixteen(&mut desk);
     telling::call(rt, "sixteen rules", ruled)?;
     let refused = desk.rule(&[0], &[always()]);

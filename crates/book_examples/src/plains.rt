@@ -1,5 +1,5 @@
 // Plain answers: what holds over all rows held, whether they contradict each other or not.
-use crate::desk::Desk;
+use crate::desk::open_desk;
 use crate::telling;
 use crate::written::row;
 use plan::{Field, Line, Node, Op, Plan};
@@ -40,11 +40,11 @@ fn told(rt: &HostRuntime, shown: &str, answer: Result<bool, book::Refusal>) -> i
 }
 
 pub fn answers(rt: &HostRuntime) -> io::Result<()> {
-    let mut desk = Desk::new();
+    let mut desk = open_desk();
     let there = Line {
         columns: [1, 40, 0, 0, 0, 0, 0, 0],
     };
-    let ice = desk.enter(&row(0, 1, 40));
+    let ice = desk.entry(&row(0, 1, 40));
     telling::call(rt, "ice on pad 1 at slot 40", ice)?;
     told(
         rt,
@@ -56,7 +56,7 @@ pub fn answers(rt: &HostRuntime) -> io::Result<()> {
         "plainly ice and not held",
         desk.plain(&ice_not_held(), &there),
     )?;
-    let held = desk.enter(&row(1, 1, 40));
+    let held = desk.entry(&row(1, 1, 40));
     telling::call(rt, "pad 1 is held at slot 40", held)?;
     told(
         rt,
@@ -72,7 +72,7 @@ pub fn answers(rt: &HostRuntime) -> io::Result<()> {
 
 // The source tells arity 2 for relations 0 and 1, 3 for relation 3, and none for relation 9.
 pub fn wrong_arities(rt: &HostRuntime) -> io::Result<()> {
-    let desk = Desk::new();
+    let desk = open_desk();
     let line = Line { columns: [0; 8] };
     told(rt, "the plan at first", desk.plain(&Plan::new(), &line))?;
     told(rt, "relation 9", desk.plain(&plan_of(&[open(9, 2)]), &line))?;
@@ -92,7 +92,7 @@ pub fn wrong_arities(rt: &HostRuntime) -> io::Result<()> {
 
 // A line of three columns, and then a number that is not zero.
 pub fn wrong_lines(rt: &HostRuntime) -> io::Result<()> {
-    let desk = Desk::new();
+    let desk = open_desk();
     let plan = plan_of(&[open(3, 3)]);
     for column in 3..8usize {
         let mut columns = [0; 8];

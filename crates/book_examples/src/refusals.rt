@@ -1,12 +1,13 @@
 // The rules that are refused for what they say, and the conflicts that are not there.
-use crate::desk::Desk;
+use crate::desk::open_desk;
 use crate::telling;
 use crate::written::{always, both, row};
+use rules::Comparison;
 use std::io;
 use store::Sign;
 
 pub fn malformed(rt: &HostRuntime) -> io::Result<()> {
-    let mut desk = Desk::new();
+    let mut desk = open_desk();
     let none = desk.rule(&[], &[]);
     telling::call(rt, "a rule with no atom", none)?;
     let four = desk.rule(&[3, 3, 3, 3], &[]);
@@ -19,7 +20,7 @@ pub fn malformed(rt: &HostRuntime) -> io::Result<()> {
 
 // Relation 9 is not declared.
 pub fn undeclared_atoms(rt: &HostRuntime) -> io::Result<()> {
-    let mut desk = Desk::new();
+    let mut desk = open_desk();
     let first = desk.rule(&[9, 9, 9], &[]);
     telling::call(rt, "a rule with the atoms 9 9 9", first)?;
     let second = desk.rule(&[3, 9, 9], &[]);
@@ -28,37 +29,39 @@ pub fn undeclared_atoms(rt: &HostRuntime) -> io::Result<()> {
     telling::call(rt, "a rule with the atoms 3 3 9", third)
 }
 
-// Two atoms, and a comparison, each of six in turn, that names a third.
+// Two atoms, and a comparison that names a third.
 pub fn no_such_atom(rt: &HostRuntime) -> io::Result<()> {
-    for place in 0..6usize {
-        let mut desk = Desk::new();
-        let mut comparisons = [always(); 6];
-        comparisons[place] = both(0, Sign::Less, 2, 0);
-        let refused = desk.rule(&[3, 3], &comparisons);
-        print!(rt; "comparison {place} of six, ")?;
-        telling::call(rt, "a0.0<a2.0 with two atoms", refused)?;
-    }
-    Ok(())
+    let third = both(0, Sign::Less, 2, 0);
+    each_of_six(rt, "a0.0<a2.0 with two atoms", &[3, 3], third)
 }
 
-// Relation 4 has two columns, and a comparison, each of six in turn, names a third.
+// Relation 4 has two columns, and a comparison names a third.
 pub fn no_such_column(rt: &HostRuntime) -> io::Result<()> {
+    let third = both(0, Sign::Equal, 1, 2);
+    each_of_six(rt, "a0.2=a1.2 with the atoms 3 4", &[3, 4], third)
+}
+
+// A rule with a comparison that is refused, in each of six places in turn.
+fn each_of_six(
+    rt: &HostRuntime,
+    shown: &str,
+    atoms: &[u16],
+    refused: Comparison,
+) -> io::Result<()> {
     for place in 0..6usize {
-        let mut desk = Desk::new();
         let mut comparisons = [always(); 6];
-        comparisons[place] = both(0, Sign::Equal, 1, 2);
-        let refused = desk.rule(&[3, 4], &comparisons);
+        comparisons[place] = refused;
         print!(rt; "comparison {place} of six, ")?;
-        telling::call(rt, "a0.2=a1.2 with the atoms 3 4", refused)?;
+        telling::call(rt, shown, open_desk().rule(atoms, &comparisons))?;
     }
     Ok(())
 }
 
 pub fn no_such_conflict(rt: &HostRuntime) -> io::Result<()> {
-    let mut desk = Desk::new();
+    let mut desk = open_desk();
     let ruled = desk.rule(&[2], &[]);
     telling::call(rt, "no row of relation 2", ruled)?;
-    let held = desk.enter(&row(2, 1, 9));
+    let held = desk.entry(&row(2, 1, 9));
     telling::call(rt, "a row of relation 2", held)?;
     telling::count(rt, "with that row", &desk)?;
     telling::conflict(rt, "conflict 0", &desk, 0)?;

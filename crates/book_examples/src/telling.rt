@@ -1,6 +1,7 @@
 // The lines that the examples print.
 use crate::desk::Desk;
 use book::{Forbidden, Refusal};
+use fault::Notice;
 use std::io;
 
 // Says how a call went: taken, or refused with its number, layer and position.
@@ -12,7 +13,7 @@ pub fn call<T: Drop>(rt: &HostRuntime, shown: &str, outcome: Result<T, Refusal>)
 }
 
 pub fn refused(rt: &HostRuntime, shown: &str, refusal: Refusal) -> io::Result<()> {
-    let notice = refusal.notice();
+    let notice = Notice::from(refusal);
     let number = notice.number;
     let layer = notice.layer;
     let position = notice.position;
@@ -35,7 +36,7 @@ pub fn conflict(rt: &HostRuntime, shown: &str, desk: &Desk, number: usize) -> io
 fn rule_and_rows(rt: &HostRuntime, shown: &str, forbidden: &Forbidden) -> io::Result<()> {
     let rule = forbidden.rule;
     print!(rt; "{shown}: rule {rule} forbids")?;
-    for row in &forbidden.rows[0..forbidden.count] {
+    for row in forbidden.rows.as_slice() {
         let relation = row.relation;
         let columns = &row.columns;
         print!(rt; " {relation}{columns:?}")?;

@@ -23,7 +23,7 @@ pub fn party(pad: u32, slot: u32, club: u32) -> Row {
 // Enters the parties of the clubs 0 up to this number, all on one pad at one slot.
 pub fn enter_parties(desk: &mut Desk, clubs: u32) -> Result<(), Refusal> {
     for club in 0..clubs {
-        desk.enter(&party(1, 9, club))?;
+        desk.entry(&party(1, 9, club))?;
     }
     Ok(())
 }

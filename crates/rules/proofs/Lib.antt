@@ -20,9 +20,9 @@ pub mod Naming
 pub mod Keeping
 pub mod Completing
 pub mod Emptied
-pub mod Sizes
 -- For the proofs of this crate alone:
 mod Failing
+mod Fews
 mod Mapping
 mod Beginning
 mod Sorting
@@ -30,3 +30,4 @@ mod Pushing
 mod Growing
 mod Sharing
 mod LastRule
+mod Undoing

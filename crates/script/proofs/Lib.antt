@@ -1,3 +1,1 @@
 mod FirstBytes
-mod Gathered
-mod Sound

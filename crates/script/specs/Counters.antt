@@ -10,8 +10,7 @@ use Rattle.book.specs.Outcomes.{told_of}
 use Rattle.book.specs.Plain.{Asked, entering, striking, ruling}
 use Rattle.book.specs.Queries.{Counts}
 use Rattle.book.specs.Runs.{LivesOn}
-use Rattle.book.specs.declared.call.Outcome.{Outcome}
-use Rattle.book.specs.declared.call.Outcome.TheVariants.{Taken as WasTaken, Ruled, Refused}
+use Rattle.book.specs.declared.call.Done.{Done}
 use Rattle.book.specs.declared.refusal.Refusal.{Refusal as BookRefusal}
 use Rattle.commands.specs.Lines.{line_refusal, line_command}
 use Rattle.commands.specs.Tasks.{Task, enter, strike, rule, conflicts}
@@ -34,15 +33,14 @@ abbrev pub rules_in : Counter → List Denial
 rules_in c = rules_of c.book.log
 
 -- a row or a rule that is taken is answered so, and a refusal is handed on
-abbrev pub answer_to : Outcome → Result Reply BookRefusal
-answer_to WasTaken = Ok Taken
-answer_to (Ruled n) = Ok Taken
-answer_to (Refused e) = Err e
+abbrev pub answer_to : Result Done BookRefusal → Result Reply BookRefusal
+answer_to (Ok done) = Ok Taken
+answer_to (Err e) = Err e
 
 -- what the book does when it is asked this, and that every lawful life so far goes on with it
 abbrev pub CallSays : Store → List Denial → Store → List Denial → Asked → Result Reply BookRefusal → Type 0
 CallSays s rules s' rules' asked result =
-    (outcome : Outcome) × (result ≡ answer_to outcome) × StepSays s rules s' rules' asked outcome × LivesOn s rules s' rules' asked (told_of outcome)
+    (outcome : Result Done BookRefusal) × (result ≡ answer_to outcome) × StepSays s rules s' rules' asked outcome × LivesOn s rules s' rules' asked (told_of outcome)
 
 -- what a task asks of the book; `conflicts` only wants a number told
 abbrev pub asked_of : Task → Option Asked

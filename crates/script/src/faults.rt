@@ -11,14 +11,14 @@ pub enum Fault {
     Book(book::Refusal),
 }
 
-impl Fault {
-    // The number, layer and position that the refusing layer tells.
-    pub fn notice(self) -> Notice
-        ensures { result ≡ fault_notice self }
-    {
-        match self {
-            Fault::Script(refusal) => refusal.notice(),
-            Fault::Book(refusal) => refusal.notice(),
+// The number, layer and position that the refusing layer tells.
+impl From<Fault> for Notice {
+    ghost from_gives = { λ fault notice. notice ≡ fault_notice fault };
+
+    fn from(fault: Fault) -> Notice {
+        match fault {
+            Fault::Script(refusal) => Notice::from(refusal),
+            Fault::Book(refusal) => Notice::from(refusal),
         }
     }
 }

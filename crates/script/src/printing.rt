@@ -3,6 +3,7 @@ ghost use Rattle.std.specs.Prelude.{Some};
 ghost use Rattle.script.specs.Printing.{said_words};
 
 use crate::reply::{Reply, Said};
+use fault::Notice;
 use std::fmt;
 
 impl fmt::Display for Said {
@@ -13,7 +14,7 @@ impl fmt::Display for Said {
             Ok(Reply::Taken) => f.write_str("taken"),
             Ok(Reply::Conflicts(count)) => write!(f, "conflicts {count}"),
             Err(fault) => {
-                let notice = fault.notice();
+                let notice = Notice::from(fault);
                 let number = notice.number;
                 let layer = notice.layer;
                 let line = self.line;

@@ -9,7 +9,7 @@ ghost use Rattle.commands.specs.Tasks.{task_of};
 use super::Counter;
 use crate::faults::Fault;
 use crate::reply::{Reply, Said};
-use book::{Book, Call, Outcome};
+use book::{Book, Call};
 use commands::{Command, parse};
 use store::Table;
 
@@ -68,11 +68,7 @@ impl Counter {
         ensures same { self.new.lines ≡ self.old.lines }
         ensures says { CallSays (store_of self.old) (rules_in self.old) (store_of self.new) (rules_in self.new) (asked_by call.entry) result }
     {
-        match self.book.step(call) {
-            Outcome::Taken => Ok(Reply::Taken),
-            Outcome::Ruled(_) => Ok(Reply::Taken),
-            Outcome::Refused(refusal) => Err(refusal),
-        }
+        self.book.step(call).map(|_| Reply::Taken)
     }
 }
 

@@ -3,14 +3,15 @@ use Rattle.std.proofs.lemmas.Bool.{le-leb, leb-true}
 use Rattle.rules.specs.Entries.{listing}
 use Rattle.rules.proofs.Counting.{counted}
 use Rattle.book.specs.Books.{rules_of}
+use Rattle.book.proofs.Tested.{exact_of}
 use Rattle.book.proofs.book.Book.conflicts.Goals as goal
 
 pub returns : goal.returns
 returns g c =
     let b = c.args.self.now in
     let s = g.S.Source.model b.source in
-    let kept = g.S.Source.keeps b.source c.requires.ready in
-    let tells = counted s.places kept.once (rules_of b.log) (listing b.log.conflicts) c.requires.exact in
+    let kept = g.met.S.Source.keeps b.source in
+    let tells = counted s.places kept.once (rules_of b.log) (listing b.log.conflicts) (exact_of s b.log b.right b.full b.once) in
     let n = c.len.result in
     let is = c.len.ensures in
     record {

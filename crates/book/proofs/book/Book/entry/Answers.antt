@@ -10,6 +10,7 @@ use Rattle.book.specs.Runs.{LivesOn}
 use Rattle.book.specs.declared.refusal.Refusal.TheVariants.{EntryConflicts}
 use Rattle.book.proofs.Lives.{entry_lives}
 use Rattle.book.proofs.Upheld.{before_put, same_store, undone, many_with}
+use Rattle.book.proofs.Tested.{exact_of, right_of, full_of}
 use Rattle.book.proofs.book.Book.entry.Goals as goal
 
 pub returns-in_err-place : goal.returns-in_err-place
@@ -23,7 +24,6 @@ returns-in_err-place g c =
     let p = err_from_is_err_and c.from_residual.result c.from_residual.ensures.1 in
     let says : EntrySays s s' rules row c.from_residual.result = subst (EntrySays s s' rules row) (sym (p.1 ∙ ap Err p.2)) no_row.says in
     record {
-      sound = record { ready = no_row.fine; exact = same_store rules (listing b.log.conflicts) s s' no_row.says.0 c.requires.exact };
       anchor = no_row.anchor;
       rules = refl;
       says = says;
@@ -34,7 +34,7 @@ pub add_place-requires : goal.add_place-requires
 add_place-requires g c =
     let b = c.args.self.now in
     let put = c.in_ok-place.ensures in
-    record { fine = put.fine; exact = before_put (rules_of b.log) (listing b.log.conflicts) (g.S.Source.model b.source) (g.S.Source.model c.put.new.self) c.args.row.now _ put.says c.requires.exact }
+    before_put (rules_of b.log) (listing b.log.conflicts) (g.S.Source.model b.source) (g.S.Source.model c.put.new.self) c.args.row.now _ put.says (exact_of (g.S.Source.model b.source) b.log b.right b.full b.once)
 
 pub returns-in-Ok : goal.returns-in-Ok
 returns-in-Ok g c =
@@ -48,7 +48,6 @@ returns-in-Ok g c =
     let added = c.in-Ok.ensures in
     let says : EntrySays s s' rules row (Ok c.in_ok-place.place) = (put.says, added.says.1) in
     record {
-      sound = record { ready = put.fine; exact = subst (λ (rs : List Denial). Lists (is_conflict s'.places rs) (listing log.conflicts)) (sym added.rules) added.says.0 };
       anchor = put.anchor;
       rules = added.rules;
       says = says;
@@ -67,13 +66,34 @@ returns-in-Err g c =
     let put = c.in_ok-place.ensures in
     let full = c.in-Err.ensures in
     let struck = c.strike.ensures in
-    let back : s'' ≡ s = undone s s' s'' row _ put.says (g.S.Source.keeps c.put.new.self put.fine).once c.strike.result struck.says in
+    let back : s'' ≡ s = undone s s' s'' row _ put.says (g.met.S.Source.keeps c.put.new.self).once c.strike.result struck.says in
     let says : EntrySays s s'' rules row (Err EntryConflicts) = (back, put.says.granted, many_with s s' s'' row _ put.says rules full.says.1) in
-    let exact = subst (λ (l : List Listed). Lists (is_conflict s.places rules) l) (sym full.says.0) c.requires.exact in
     record {
-      sound = record { ready = struck.fine; exact = same_store (rules_of log) (listing log.conflicts) s s'' back (subst (λ (rs : List Denial). Lists (is_conflict s.places rs) (listing log.conflicts)) (sym full.rules) exact) };
       anchor = struck.anchor ∙ put.anchor;
       rules = full.rules;
       says = says;
       law = subst (λ (rs : List Denial). LivesOn s rules s'' rs (entering row) (refused 15)) (sym full.rules) (entry_lives s s'' rules row (Err EntryConflicts) says);
     }
+
+pub invariant_of-self-in-Ok : goal.invariant_of-self-in-Ok
+invariant_of-self-in-Ok g c =
+    let log = c.add_place.new.self in
+    let s' = g.S.Source.model c.put.new.self in
+    let added = c.in-Ok.ensures in
+    let exact = subst (λ (rs : List Denial). Lists (is_conflict s'.places rs) (listing log.conflicts)) (sym added.rules) added.says.0 in
+    record { right = right_of s' log exact; full = full_of s' log exact; once = exact.once }
+
+pub invariant_of-self-in-Err : goal.invariant_of-self-in-Err
+invariant_of-self-in-Err g c =
+    let b = c.args.self.now in
+    let rules = rules_of b.log in
+    let log = c.add_place.new.self in
+    let s = g.S.Source.model b.source in
+    let s' = g.S.Source.model c.put.new.self in
+    let s'' = g.S.Source.model c.strike.new.self in
+    let put = c.in_ok-place.ensures in
+    let full = c.in-Err.ensures in
+    let back : s'' ≡ s = undone s s' s'' c.args.row.now _ put.says (g.met.S.Source.keeps c.put.new.self).once c.strike.result c.strike.ensures.says in
+    let listed = subst (λ (l : List Listed). Lists (is_conflict s.places rules) l) (sym full.says.0) (exact_of s b.log b.right b.full b.once) in
+    let exact = same_store (rules_of log) (listing log.conflicts) s s'' back (subst (λ (rs : List Denial). Lists (is_conflict s.places rs) (listing log.conflicts)) (sym full.rules) listed) in
+    record { right = right_of s'' log exact; full = full_of s'' log exact; once = exact.once }

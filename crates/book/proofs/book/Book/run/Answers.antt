@@ -8,7 +8,7 @@ use Rattle.book.proofs.Running.{not_yet, one_more}
 use Rattle.book.proofs.book.Book.run.Goals as goal
 
 pub loop-call-init : goal.loop-call-init
-loop-call-init g c = let b = c.args.self.now in (c.requires, refl, not_yet (g.R.Recorder.told c.args.recorder.now) (g.S.Source.model b.source) (rules_of b.log))
+loop-call-init g c = let b = c.args.self.now in (refl, not_yet (g.R.Recorder.told c.args.recorder.now) (g.S.Source.model b.source) (rules_of b.log))
 
 pub loop-call-preserved : goal.loop-call-preserved
 loop-call-preserved g c =
@@ -20,12 +20,11 @@ loop-call-preserved g c =
     let calls = c.args.calls.now in
     let i = c.loop-call.call-index in
     let more = map_more asked_by calls i _ c.loop-call-test.true in (
-      step.sound,
-      step.anchor ∙ so.1,
+      step.anchor ∙ so.0,
       subst (λ (askeds : List Asked). RunSays (told c.args.recorder.now) (told c.record.new.self) askeds (model b.source) (rules_of b.log) (model c.step-outcome.new.self.source) (rules_of c.step-outcome.new.self.log)) (sym more)
           (one_more (told c.args.recorder.now) (told c.loop-call.recorder) (told c.record.new.self) (map asked_by (take i calls))
           (model b.source) (model c.loop-call.self.source) (model c.step-outcome.new.self.source) (rules_of b.log) (rules_of c.loop-call.self.log) (rules_of c.step-outcome.new.self.log)
-          _ (told_of c.step-outcome.result) so.2 step.law c.record.ensures),
+          _ (told_of c.step-outcome.result) so.1 step.law c.record.ensures),
     )
 
 pub returns : goal.returns
@@ -34,7 +33,6 @@ returns g c =
     let b = c.args.self.now in
     let whole = take_all c.loop-call.call-index c.args.calls.now (omega arith) in
     record {
-      sound = so.0;
-      anchor = so.1;
-      law = subst (λ (calls : List Call). RunSays (g.R.Recorder.told c.args.recorder.now) (g.R.Recorder.told c.loop-call.recorder) (map asked_by calls) (g.S.Source.model b.source) (rules_of b.log) (g.S.Source.model c.loop-call.self.source) (rules_of c.loop-call.self.log)) whole so.2;
+      anchor = so.0;
+      law = subst (λ (calls : List Call). RunSays (g.R.Recorder.told c.args.recorder.now) (g.R.Recorder.told c.loop-call.recorder) (map asked_by calls) (g.S.Source.model b.source) (rules_of b.log) (g.S.Source.model c.loop-call.self.source) (rules_of c.loop-call.self.log)) whole so.1;
     }
