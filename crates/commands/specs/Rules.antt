@@ -1,6 +1,7 @@
 -- Rules as a line writes them: atoms, then comparisons.
-use Rattle.std.specs.Prelude.{ℕ, cond, List, [], ◌∷◌, take, None, Option}
+use Rattle.std.specs.Prelude.{ℕ, cond, List, [], ◌∷◌, None, Option}
 use Rattle.std.specs.Option.{option_map, option_zip}
+use Rattle.ordered.specs.Lists.{items_in}
 use Rattle.rules.specs.Rules.{Denial}
 use Rattle.rules.specs.declared.rule.Comparison.{Comparison}
 use Rattle.words.specs.Language.{number_of, is_number}
@@ -8,9 +9,9 @@ use Rattle.commands.specs.Comparisons.{comparison_of}
 use Rattle.commands.specs.Numbers.{each, relation_of}
 use Rattle.commands.specs.declared.rule.RuleText.{RuleText}
 
--- the rule that the arrays and their counts hold
+-- the rule that the lists hold
 abbrev pub written : RuleText → Denial
-written rule = record { atoms = take rule.atom_count rule.atoms; comparisons = take rule.comparison_count rule.comparisons }
+written rule = record { atoms = items_in rule.atoms; comparisons = items_in rule.comparisons }
 
 -- a rule without atoms
 abbrev pub atomless : List Comparison → Denial

@@ -1,5 +1,6 @@
 -- The language of a script's words: how a text is cut into parts, and which texts are numbers, leaves, comparisons, signs and slashes.
 use Rattle.std.specs.Prelude.{ℕ, ◌+◌, ◌-◌, ◌*◌, ◌^◌, Bool, true, false, cond, not, ◌&&◌, ◌||◌, List, [], ◌∷◌, map, length, is_some, Some, None, codes, Option, ◌==◌, nat_le, nat_lt}
+use Rattle.std.specs.List.{list_all}
 use Rattle.std.specs.Option.{option_map}
 use Rattle.words.specs.declared.separators.Separator.{Separator}
 use Rattle.words.specs.declared.separators.Separator.TheVariants.{Space, Colon, Comma, Sign}
@@ -24,8 +25,7 @@ spelled (p ∷ ps) (b ∷ bs) = p b && spelled ps bs
 
 -- each passes
 abbrev pub every : {A : Type 0} → (A → Bool) → List A → Bool
-every p [] = true
-every p (x ∷ xs) = p x && every p xs
+every = list_all
 
 -- ---- parts
 

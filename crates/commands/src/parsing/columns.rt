@@ -18,12 +18,12 @@ pub fn columns_from<const N: usize>(mut words: Parts<'_>) -> Option<[u32; N]>
     ensures { result ≡ columns_from N (texts (to_come words.entry)) }
 {
     let mut columns = [0; N];
-    for i in 0..N {
+    for (i, column) in columns.iter_mut().enumerate() {
         let Some(part) = words.next() else {
             // One at least was there.
             return (i > 0).then_some(columns);
         };
-        columns[i] = number(part.text)?;
+        *column = number(part.text)?;
     }
     (N > 0 && words.next().is_none()).then_some(columns)
 }

@@ -7,8 +7,8 @@ use store::Sign;
 use words::halves::halves;
 use words::{Separator, number};
 
-// The sign that a byte is.
-pub fn sign_of(byte: u8) -> Option<Sign>
+// The sign that a byte is. (`TryFrom` would have to stand beside `Sign`, in the store, which knows nothing of scripts.)
+fn sign_of(byte: u8) -> Option<Sign>
     ensures { result ≡ sign_of byte }
 {
     match byte {

@@ -3,6 +3,7 @@ ghost use Rattle.std.specs.Prelude.{◌≡◌, ◌<◌, [], ◌∷◌, ◌++◌,
 ghost use Rattle.commands.specs.Rules.{written};
 
 use super::RuleText;
+use ordered::Few;
 use rules::{Comparison, Side};
 use store::Sign;
 
@@ -17,10 +18,8 @@ impl RuleText {
             right: Side::Constant(0),
         };
         RuleText {
-            atoms: [0; 100],
-            atom_count: 0,
-            comparisons: [blank; 50],
-            comparison_count: 0,
+            atoms: Few::new(0),
+            comparisons: Few::new(blank),
         }
     }
 
@@ -28,14 +27,14 @@ impl RuleText {
     pub fn atoms(&self) -> &[u16]
         ensures { result.now ≡ (written self.now).atoms }
     {
-        &self.atoms[0..self.atom_count]
+        self.atoms.as_slice()
     }
 
     // Its comparisons, in order.
     pub fn comparisons(&self) -> &[Comparison]
         ensures { result.now ≡ (written self.now).comparisons }
     {
-        &self.comparisons[0..self.comparison_count]
+        self.comparisons.as_slice()
     }
 
     // One more atom.
@@ -43,8 +42,7 @@ impl RuleText {
         requires { length (written self.old).atoms < 100 }
         ensures { written self.new ≡ record { atoms = (written self.old).atoms ++ (relation ∷ []); comparisons = (written self.old).comparisons } }
     {
-        self.atoms[self.atom_count] = relation;
-        self.atom_count += 1;
+        self.atoms.push(relation);
     }
 
     // One more comparison.
@@ -52,7 +50,6 @@ impl RuleText {
         requires { length (written self.old).comparisons < 50 }
         ensures { written self.new ≡ record { atoms = (written self.old).atoms; comparisons = (written self.old).comparisons ++ (comparison ∷ []) } }
     {
-        self.comparisons[self.comparison_count] = comparison;
-        self.comparison_count += 1;
+        self.comparisons.push(comparison);
     }
 }

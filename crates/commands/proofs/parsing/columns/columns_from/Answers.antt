@@ -4,4 +4,4 @@ use Rattle.commands.proofs.Columns.{one_more}
 use Rattle.commands.proofs.parsing.columns.columns_from.Goals as goal
 
 pub loop-i-preserved : goal.loop-i-preserved
-loop-i-preserved g c = one_more c.loop-i.invariant c.in_ok-columns.field-0 c.in-Some.ensures.steps c.in_ok-columns.ensures (omega arith)
+loop-i-preserved g c = one_more c.loop-i.invariant c.in_ok-column.field-0 c.in-Some.ensures.steps c.in_ok-column.ensures (omega arith)

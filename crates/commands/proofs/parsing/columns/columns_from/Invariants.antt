@@ -5,4 +5,4 @@ use Rattle.commands.proofs.Columns.{Sofar}
 use Rattle.commands.proofs.parsing.columns.columns_from.Given as goal
 
 abbrev pub invariant-loop-i : goal.invariant-loop-i
-invariant-loop-i g l = Sofar g.row.N (texts (to_come l.initial.words)) l.columns l.i (to_come l.words)
+invariant-loop-i g l = Sofar g.row.N (texts (to_come l.initial.words)) l.column-items l.i (to_come l.words)
