@@ -1,11 +1,13 @@
 -- A list that is completed rule by rule: what one rule's search leaves of it.
 use Rattle.std.proofs.Common.{◌≡◌, ℕ, ◌+◌, ◌<◌, Bool, true, false, ◌||◌, ltb, List, [], ◌∷◌, length, get_or, Option, sym, refl, ap, ◌∙◌, subst, inl, inr, arith}
 use Rattle.std.specs.Ordering.{is_lt}
+use Rattle.std.proofs.lemmas.List.{length-map}
 use Rattle.std.proofs.lemmas.Bool.{true≢false, both_ways, and_parts, and_from, or_right, le-leb}
-use Rattle.ordered.specs.Columnwise.{columnwise, by_key}
+use Rattle.std.proofs.lemmas.Cmp.{on_total, nat_list_cmp_total, tied_itself}
+use Rattle.ordered.specs.Columnwise.{columnwise}
+use Rattle.ordered.specs.Lists.{items_in}
 use Rattle.ordered.specs.Order.{rises}
 use Rattle.ordered.proofs.Ascending.{tail_rises}
-use Rattle.ordered.proofs.Comparing.{itself}
 use Rattle.ordered.proofs.Members.{member_after, same_members}
 use Rattle.store.specs.Places.{OnceIn}
 use Rattle.store.specs.declared.row.Row.{Row}
@@ -17,11 +19,11 @@ use Rattle.rules.specs.Listing.{Listed, Lists, is_conflict, same_places}
 use Rattle.rules.specs.Rules.{Denial, AtMost}
 use Rattle.rules.specs.Searching.{Found, Grown, Has}
 use Rattle.rules.specs.Sets.{distinct}
-use Rattle.rules.specs.Views.{by_places}
+use Rattle.rules.specs.Views.{listed_as, by_places}
 use Rattle.rules.specs.declared.list.Conflicts.{Conflicts}
 use Rattle.rules.proofs.Apart.{apart_put}
 use Rattle.rules.proofs.Counting.{counted, one_too_many}
-use Rattle.rules.proofs.Keeping.{listing_length}
+use Rattle.rules.proofs.Fews.{items_few}
 use Rattle.rules.proofs.OnePlace.{conflict_parts}
 use Rattle.rules.proofs.Rounds.{enters, round, round_starts, gives_up, up_to_is}
 
@@ -31,13 +33,13 @@ rises_once [] up = refl
 rises_once (c ∷ l) up = apart_put same_places c l
     (λ d m s.
     let less = member_after by_places c d l up m in
-    let e = ap (columnwise c.places) (sym (same_numbers_is c.places d.places s)) ∙ itself (by_key (λ (p : List ℕ). p)) c.places in
+    let e = ap (columnwise c.places) (sym (same_numbers_is c.places d.places s)) ∙ tied_itself nat_list_cmp_total c.places in
     true≢false (sym (ap is_lt less) ∙ ap is_lt e))
     (rises_once l (tail_rises by_places c l up))
 
 -- two lists of the same conflicts, both in order, are the same
 pub lists_same : (test : Listed → Bool) (a b : List Listed) → rises by_places a ≡ true → rises by_places b ≡ true → Lists test a → Lists test b → a ≡ b
-lists_same test a b up vp la lb = same_members (by_key (λ (c : Listed). c.places)) a b up vp (λ c m. lb.full c (la.right c m)) (λ c m. la.full c (lb.right c m))
+lists_same test a b up vp la lb = same_members (on_total (λ (c : Listed). c.places) nat_list_cmp_total) a b up vp (λ c m. lb.full c (la.right c m)) (λ c m. la.full c (lb.right c m))
 
 -- without rules there are no conflicts to list
 pub lists_none : (table : List (Option Row)) → Lists (is_conflict table []) []
@@ -45,7 +47,7 @@ lists_none table = record { right = λ c m. elim m [ ]; full = λ c h. absurd (b
 
 -- conflicts that are all listed are at most 1,024
 pub fits_list : (table : List (Option Row)) → OnceIn table → (rules : List Denial) (l : Conflicts) → Lists (is_conflict table rules) (listing l) → AtMost 1024 (rows_of table) rules
-fits_list table once rules l ls = (counted table once rules (listing l) ls 1024).0 (le-leb (length (listing l)) 1024 (omega (arith, listing_length l, l.within)))
+fits_list table once rules l ls = (counted table once rules (listing l) ls 1024).0 (le-leb (length (listing l)) 1024 (omega (arith, length-map (items_in l.items) listed_as, items_few l.items)))
 
 module _ (table : List (Option Row)) (once : OnceIn table) (rules : List Denial) (known : List ℕ → Bool) (k : ℕ) (lt : k < length rules) (other : Denial) {rule : Denial} (at : get_or rules k other ≡ rule)
     {before after : List Listed} (ls : Lists (up_to table rules known k) before) (grown : Grown table rule k before after) (up : rises by_places after ≡ true) where

@@ -1,29 +1,29 @@
--- A list that is gone through for the first element that fails a test.
-use Rattle.std.proofs.Common.{◌≡◌, ℕ, suc, ◌+◌, ◌<◌, ◌≤◌, Bool, true, false, List, length, get_or, drop, sym, refl, ◌∙◌, arith}
-use Rattle.std.proofs.lemmas.List.{at_drop_more, at_drop_all}
+-- The first element of a list that fails a test.
+use Rattle.std.proofs.Common.{◌≡◌, suc, ◌+◌, Bool, true, false, cond, not, List, [], ◌∷◌, Some, None, Option, sym, refl, ◌∙◌, arith}
+use Rattle.std.specs.List.{list_any, position_or_len}
+use Rattle.std.proofs.lemmas.Bool.{and_from, or_parts, not-true, not-false}
+use Rattle.std.proofs.lemmas.List.Folds.{list_all_at}
+use Rattle.std.proofs.lemmas.List.Recursion.{is_position_or_len}
+use Rattle.std.proofs.lemmas.List.Sums.{position_or_len_is}
 use Rattle.store.specs.Lists.{all}
-use Rattle.store.proofs.Scans.{all_past, all_stops}
-use Rattle.rules.specs.Refusals.{first_failing}
+use Rattle.store.proofs.Firsts.{First}
+use Rattle.rules.specs.Refusals.{first_failing, FailSays}
 
--- each of the first i elements passes: what is left decides
-pub record Passed {A : Type 0} (test : A → Bool) (xs : List A) (i : ℕ) : Type 0 where
-  pub rest : all test (drop i xs) ≡ all test xs
-  pub first : i + first_failing test (drop i xs) ≡ first_failing test xs
+module _ {A : Type 0} (test : A → Bool) where
+  abbrev pub failing : A → Bool
+  failing x = not (test x)
 
-module _ {A : Type 0} (test : A → Bool) (xs : List A) where
-  pub passed_none : Passed test xs 0
-  passed_none = record { rest = refl; first = omega arith }
+  failing_is : (xs : List A) → first_failing test xs ≡ position_or_len failing xs
+  failing_is = is_position_or_len (first_failing test) failing refl
+      (λ x xs. elim (test x) as (λ b. cond b (suc (first_failing test xs)) 0 ≡ cond (not b) 0 (1 + first_failing test xs)) [ true ↦ omega arith | false ↦ refl ])
 
-  module _ (i : ℕ) (d : A) (inside : i < length xs) (so : Passed test xs i) where
-    pub passed_more : test (get_or xs i d) ≡ true → Passed test xs (i + 1)
-    passed_more h =
-        let step : first_failing test (drop i xs) ≡ suc (first_failing test (drop (i + 1) xs)) = at_drop_more (first_failing test) xs i d inside ∙ rw h in
-        record { rest = all_past test xs i d inside h ∙ so.rest; first = omega (arith, so.first) }
+  none_fails : (xs : List A) → list_any failing xs ≡ false → all test xs ≡ true
+  none_fails [] h = refl
+  none_fails (x ∷ xs) h = let (a, b) = or_parts (failing x) (list_any failing xs) h in and_from (test x) (all test xs) (not-false (test x) a) (none_fails xs b)
 
-    pub failed : test (get_or xs i d) ≡ false → (all test xs ≡ false) × (i ≡ first_failing test xs)
-    failed h =
-        let step : first_failing test (drop i xs) ≡ 0 = at_drop_more (first_failing test) xs i d inside ∙ rw h in
-        (sym so.rest ∙ all_stops test xs i d inside h, omega (arith, so.first))
-
-  pub passed_all : (i : ℕ) → length xs ≤ i → Passed test xs i → all test xs ≡ true
-  passed_all i past so = sym so.rest ∙ at_drop_all (all test) xs i past
+  pub fail_says : (xs : List A) (r : Option _) → First failing xs r → FailSays test xs r
+  fail_says xs None none = none_fails xs none
+  fail_says [] (Some i) (inside, at) = absurd (omega arith)
+  fail_says (x ∷ xs) (Some i) (inside, at) =
+      let l = x ∷ xs in
+      (list_all_at test l i x inside (not-true _ (at x).0), sym (failing_is l ∙ position_or_len_is failing l i x (omega arith) (at x).1 (λ _. (at x).0)))

@@ -6,8 +6,8 @@ use Rattle.std.proofs.lemmas.List.{append_assoc, append-nil, length-append, nil_
 use Rattle.std.proofs.lemmas.Bool.{both_ways, cases_Bool, cases_eq, cond_both, eqb-true}
 use Rattle.ordered.specs.Order.{rises, listed, entered}
 use Rattle.ordered.specs.declared.entry.Full.{Full}
-use Rattle.ordered.specs.Columnwise.{columnwise, by_key}
-use Rattle.ordered.proofs.Comparing.{itself}
+use Rattle.ordered.specs.Columnwise.{columnwise}
+use Rattle.std.proofs.lemmas.Cmp.{on_total, nat_list_cmp_total, tied_itself}
 use Rattle.ordered.proofs.Entering.{member_new, member_old, member_entered}
 use Rattle.ordered.proofs.Keyed.{same_columns}
 use Rattle.ordered.proofs.Members.{listed_from_member, member_from_listed}
@@ -45,7 +45,7 @@ module _ {table : List (Option Row)} {rule : Denial} {number : ℕ} where
 -- a conflict that is entered, or is not since the list is full
 module _ {table : List (Option Row)} {rule : Denial} {number : ℕ} {chosen : List ℕ} {c : Listed} (breaks : Choice table rule chosen) (made : MadeOf chosen number c) (before : List Listed) where
   free : listed by_places c before ≡ false → (d : Listed) → Memᴰ d before → d.places ≡ c.places → ⊥
-  free none d m e = both_ways _ none (listed_from_member by_places c d before m (ap (λ p. columnwise d.places p) (sym e) ∙ itself (by_key (λ (p : List ℕ). p)) d.places))
+  free none d m e = both_ways _ none (listed_from_member by_places c d before m (ap (λ p. columnwise d.places p) (sym e) ∙ tied_itself nat_list_cmp_total d.places))
 
   pub found : listed by_places c before ≡ false → Found table rule number before c
   found none = record { chosen = chosen; breaks = breaks; made = made; absent = free none }
@@ -54,7 +54,7 @@ module _ {table : List (Option Row)} {rule : Denial} {number : ℕ} {chosen : Li
     pub entered_grown : Grown table rule number before (entered by_places c before)
     entered_grown = record {
       kept = λ d m. member_old by_places c d before m;
-      new = λ d m. elim (member_entered (by_key (λ (x : Listed). x.places)) c d before up m) [
+      new = λ d m. elim (member_entered (on_total (λ (x : Listed). x.places) nat_list_cmp_total) c d before up m) [
         | inl (e, none) ↦ inr (subst (Found table rule number before) (sym e) (found none))
         | inr n ↦ inl n
       ];

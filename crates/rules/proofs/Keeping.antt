@@ -1,37 +1,40 @@
 -- The list of conflicts after one is entered or some are taken out.
-use Rattle.std.proofs.Common.{◌≡◌, ℕ, Bool, true, false, List, map, length, take, filter, Ordering, sym, ap, ◌∙◌, arith}
-use Rattle.std.proofs.lemmas.List.{length-map, length-take-le}
-use Rattle.ordered.specs.Order.{rises, listed, entered}
-use Rattle.ordered.specs.Promises.{Enters, Refuses, Retains}
+use Rattle.std.proofs.Common.{◌≡◌, Bool, true, List, map, filter, Ordering, MatchResult, Ok, Err, Result, sym, ap, ◌∙◌}
+use Rattle.std.proofs.lemmas.List.{length-map}
+use Rattle.ordered.specs.Lists.{Takes, Bars}
+use Rattle.ordered.specs.Order.{rises}
+use Rattle.ordered.specs.declared.entry.Full.{Full}
 use Rattle.ordered.proofs.Ascending.{rises_kept_by}
-use Rattle.rules.specs.Entries.{listing}
+use Rattle.rules.specs.Entries.{EnterSays}
 use Rattle.rules.specs.Listing.{Listed}
 use Rattle.rules.specs.Views.{listed_as, by_places}
 use Rattle.rules.specs.declared.conflict.Conflict.{Conflict}
-use Rattle.rules.specs.declared.list.Conflicts.{Conflicts}
 use Rattle.rules.proofs.Mapping.{map_kept, rises_map, listed_map, entered_map}
-
--- as many are listed as the count says
-pub listing_length : (l : Conflicts) → length (listing l) ≡ l.count
-listing_length l = length-map (take l.count l.items) listed_as ∙ length-take-le l.count l.items (omega (arith, l.within, l.sized))
 
 abbrev in_order : Conflict → Conflict → Ordering
 in_order a b = by_places (listed_as a) (listed_as b)
 
-module _ {front items after : List Conflict} {n : ℕ} where
-  module _ (test : Listed → Bool) (h : Retains (λ c. test (listed_as c)) front items after n) where
-    pub kept_list : map listed_as (take n after) ≡ filter test (map listed_as front)
-    kept_list = ap (map listed_as) h.list ∙ map_kept listed_as test front
+abbrev told : List Conflict → List Listed
+told items = map listed_as items
 
-    pub kept_rises : rises by_places (map listed_as front) ≡ true → rises by_places (map listed_as (take n after)) ≡ true
-    kept_rises up = ap (rises by_places) kept_list ∙ rises_kept_by by_places test (map listed_as front) up
+module _ (test : Listed → Bool) (before after : List Conflict) (kept : after ≡ filter (λ c. test (listed_as c)) before) where
+  pub kept_list : told after ≡ filter test (told before)
+  kept_list = ap told kept ∙ map_kept listed_as test before
 
-  module _ {x : Conflict} (h : Enters in_order x front items after n) (up : rises by_places (map listed_as front) ≡ true) where
-    pub entered_list : map listed_as (take n after) ≡ entered by_places (listed_as x) (map listed_as front)
-    entered_list = ap (map listed_as) (h.list (rises_map listed_as by_places front ∙ up)) ∙ entered_map listed_as by_places x front
+  pub kept_rises : rises by_places (told before) ≡ true → rises by_places (told after) ≡ true
+  kept_rises up = ap (rises by_places) kept_list ∙ rises_kept_by by_places test (told before) up
 
-    pub entered_rises : rises by_places (map listed_as (take n after)) ≡ true
-    entered_rises = sym (rises_map listed_as by_places (take n after)) ∙ h.rising (rises_map listed_as by_places front ∙ up)
+in_order_rises : (l : List Conflict) → rises by_places (told l) ≡ true → rises in_order l ≡ true
+in_order_rises l up = rises_map listed_as by_places l ∙ up
 
-pub absent_list : {x : Conflict} {front items after : List Conflict} → Refuses in_order x front items after → rises by_places (map listed_as front) ≡ true → listed by_places (listed_as x) (map listed_as front) ≡ false
-absent_list {x} {front} h up = sym (listed_map listed_as by_places x front) ∙ h.absent (rises_map listed_as by_places front ∙ up)
+module _ (c : Conflict) (before after : List Conflict) (up : rises by_places (told before) ≡ true) where
+  abbrev Told : Result Unit Full → Type 0
+  Told r = MatchResult r (λ _. Takes in_order c before after) (λ _. Bars in_order c before after 1024)
+
+  pub entered_rises : (r : Result Unit Full) → Told r → rises by_places (told after) ≡ true
+  entered_rises (Ok done) h = sym (rises_map listed_as by_places after) ∙ h.rising (in_order_rises before up)
+  entered_rises (Err full) h = ap (λ l. rises by_places (told l)) h.same ∙ up
+
+  pub enter_says : (r : Result Unit Full) → Told r → EnterSays (listed_as c) (told before) (told after) r
+  enter_says (Ok done) h = ap told (h.list (in_order_rises before up)) ∙ entered_map listed_as by_places c before
+  enter_says (Err full) h = (ap told h.same, length-map before listed_as ∙ h.full, sym (listed_map listed_as by_places c before) ∙ h.absent (in_order_rises before up))

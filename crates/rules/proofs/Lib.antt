@@ -23,6 +23,7 @@ pub mod Emptied
 pub mod Sizes
 -- For the proofs of this crate alone:
 mod Failing
+mod Fews
 mod Mapping
 mod Beginning
 mod Sorting
@@ -30,3 +31,4 @@ mod Pushing
 mod Growing
 mod Sharing
 mod LastRule
+mod Undoing

@@ -2,9 +2,9 @@
 use Rattle.std.specs.Prelude.{◌≡◌, Bool, true, false, cond, ◌&&◌, ◌||◌, List, [], ◌∷◌, map, filter, refl}
 use Rattle.std.specs.declared.cmp.Ordering.TheVariants.{Less, Equal, Greater}
 use Rattle.std.specs.declared.cmp.Ordering.{Ordering}
-use Rattle.std.proofs.Common.{ap, ap₂, ◌∙◌}
+use Rattle.std.proofs.Common.{sym, ap, ap₂, ◌∙◌}
+use Rattle.std.proofs.lemmas.List.Folds.{list_all-map}
 use Rattle.std.specs.Ordering.{is_lt, is_eq}
-use Rattle.std.specs.List.{list_all}
 use Rattle.ordered.specs.Order.{rises, listed, pick, entered}
 
 module _ {X Y : Type 0} (f : X → Y) where
@@ -15,17 +15,13 @@ module _ {X Y : Type 0} (f : X → Y) where
     | false ↦ map_kept test xs
   ]
 
-  all_pass_map : (test : Y → Bool) (xs : List X) → list_all (λ x. test (f x)) xs ≡ list_all test (map f xs)
-  all_pass_map test [] = refl
-  all_pass_map test (x ∷ xs) = ap (λ b. test (f x) && b) (all_pass_map test xs)
-
   module _ (order : Y → Y → Ordering) where
     abbrev through : X → X → Ordering
     through a b = order (f a) (f b)
 
     pub rises_map : (xs : List X) → rises through xs ≡ rises order (map f xs)
     rises_map [] = refl
-    rises_map (x ∷ xs) = ap₂ ◌&&◌ (all_pass_map (λ y. is_lt (order (f x) y)) xs) (rises_map xs)
+    rises_map (x ∷ xs) = ap₂ ◌&&◌ (sym (list_all-map (λ y. is_lt (order (f x) y)) f xs)) (rises_map xs)
 
     pub listed_map : (x : X) (xs : List X) → listed through x xs ≡ listed order (f x) (map f xs)
     listed_map x [] = refl

@@ -1,9 +1,13 @@
 -- What comparisons name: columns of a row, and atoms of their rule.
-use Rattle.std.proofs.Common.{◌≡◌, ℕ, zero, suc, ◌<◌, ◌≤◌, Bool, true, ltb, List, [], ◌∷◌, map, length, get_or, refl, ap, ◌∙◌, subst, arith}
+use Rattle.std.proofs.Common.{◌≡◌, ℕ, ◌<◌, ◌≤◌, true, ltb, List, [], ◌∷◌, map, length, get_or, refl, ap, ◌∙◌, subst, arith}
 use mathlib.Core.List.Memᴰ
-use Rattle.std.proofs.lemmas.List.{length-take-le}
+use Rattle.std.proofs.lemmas.List.{get_or-map, length-map}
 use Rattle.std.proofs.lemmas.Bool.{and_parts, and_from, ltb-true, lt-ltb}
+use Rattle.std.proofs.lemmas.List.Sums.{AllPass-from_list_all}
 use Rattle.store.specs.Lists.{all}
+use Rattle.store.specs.declared.row.Row.{Row}
+use Rattle.rules.specs.Beginnings.{rows_of_picks}
+use Rattle.rules.specs.declared.chosen.Pick.{Pick}
 use Rattle.rules.specs.Comparisons.{side_within, within, side_atom, last_atom}
 use Rattle.rules.specs.Refusals.{side_names, names}
 use Rattle.rules.specs.Laws.{HasAtoms}
@@ -12,6 +16,7 @@ use Rattle.rules.specs.declared.rule.Rule.{Rule}
 use Rattle.rules.specs.declared.rule.Side.{Side}
 use Rattle.rules.specs.declared.rule.Side.TheVariants.{Column, Constant}
 use Rattle.rules.specs.declared.rule.Comparison.{Comparison}
+use Rattle.rules.proofs.Fews.{items_few}
 
 module _ (arity : ℕ → ℕ) (narrow : (relation : ℕ) → arity relation ≤ 4) (atoms : List ℕ) where
   side_within_lem : (side : Side) → side_names arity atoms side ≡ true → side_within (length atoms) side ≡ true
@@ -50,29 +55,19 @@ last_within m c pos h =
     let b = side_last m c.right pos right in
     omega arith
 
-all_index : {A : Type 0} (test : A → Bool) (xs : List A) (i : ℕ) (d : A) → i < length xs → all test xs ≡ true → test (get_or xs i d) ≡ true
-all_index test [] i d lt h = absurd (omega arith)
-all_index test (x ∷ xs) zero d lt h = (and_parts (test x) (all test xs) h).0
-all_index test (x ∷ xs) (suc i) d lt h = all_index test xs i d (omega arith) (and_parts (test x) (all test xs) h).1
-
 -- each comparison of a rule is within three atoms
-pub each_within : (n : ℕ) (cs : List Comparison) → n ≤ 3 → all (within n) cs ≡ true → 0 < n → (i : ℕ) (d : Comparison) → i < length cs → within 3 (get_or cs i d) ≡ true
-each_within n cs le h pos i d lt = let here = all_index (within n) cs i d lt h in waits n 3 (get_or cs i d) here (omega (arith, last_within n (get_or cs i d) pos here))
-
--- what a rule's own facts say of the rule that it stands for
-module _ (r : Rule) where
-  pub atoms_counted : length (denial r).atoms ≡ r.atom_count
-  atoms_counted = length-take-le r.atom_count r.atoms (omega (arith, r.three, r.few))
-
-  pub rule_some : 0 < length (denial r).atoms
-  rule_some = omega (arith, atoms_counted, r.some)
-
-  pub rule_few : length (denial r).atoms ≤ 3
-  rule_few = omega (arith, atoms_counted, r.few)
-
-  pub rule_named : all (within (length (denial r).atoms)) (denial r).comparisons ≡ true
-  rule_named = ap (λ n. all (within n) (denial r).comparisons) atoms_counted ∙ r.named
+pub within_three : (r : Rule) (k : ℕ) (d : Comparison) → k < length (denial r).comparisons → within 3 (get_or (denial r).comparisons k d) ≡ true
+within_three r k d lt =
+    let n = length (denial r).atoms in
+    let here = AllPass-from_list_all (within n) (denial r).comparisons r.named k d lt in
+    waits n 3 (get_or (denial r).comparisons k d) here (omega (arith, last_within n (get_or (denial r).comparisons k d) r.some here, items_few r.atoms))
 
 -- so each of some rules has an atom
 pub has_atoms : (rules : List Rule) → HasAtoms (map denial rules)
-has_atoms rules d m = let (r, i, e) = Memᴰ.of_map denial rules m in subst (λ (x : Denial). 0 < length x.atoms) e (rule_some r)
+has_atoms rules d m = let (r, i, e) = Memᴰ.of_map denial rules m in subst (λ (x : Denial). 0 < length x.atoms) e r.some
+
+-- the columns of the row that is chosen for an atom
+pub chosen_columns : (picks : List Pick) (atom : ℕ) (d : Pick) → atom < length picks → get_or (map (λ (r : Row). r.columns) (rows_of_picks picks)) atom [] ≡ (get_or picks atom d).row.columns
+chosen_columns picks atom d lt =
+    get_or-map (λ (r : Row). r.columns) (rows_of_picks picks) atom d.row [] (omega (arith, length-map picks (λ (p : Pick). p.row)))
+    ∙ ap (λ (r : Row). r.columns) (get_or-map (λ (p : Pick). p.row) picks atom d d.row lt)

@@ -1,9 +1,10 @@
 -- A listed conflict has one to three places.
-use Rattle.std.proofs.Common.{◌≡◌, ℕ, ◌<◌, ◌≤◌, true, false, eqb, List, [], ◌∷◌, map, length, take, Option, sym, refl, ◌∙◌, subst, arith}
+use Rattle.std.proofs.Common.{◌≡◌, ℕ, ◌<◌, ◌≤◌, true, false, eqb, List, [], ◌∷◌, map, length, Option, sym, refl, ◌∙◌, subst, arith}
 use mathlib.Core.List.Memᴰ
 use mathlib.Core.List.{Memᴰ}
 use Rattle.std.proofs.lemmas.List.{length-take}
 use Rattle.std.proofs.lemmas.Bool.{both_ways, or_left, eq-eqb}
+use Rattle.ordered.specs.Lists.{items_in}
 use Rattle.store.specs.Lists.{any}
 use Rattle.store.specs.Places.{OnceIn}
 use Rattle.store.specs.declared.row.Row.{Row}
@@ -21,7 +22,7 @@ use Rattle.rules.proofs.Naming.{has_atoms}
 use Rattle.rules.proofs.OnePlace.{conflict_parts}
 
 pub at_most_three : (l : Conflicts) (c : Listed) → Memᴰ c (listing l) → length c.places ≤ 3
-at_most_three l c m = let (x, i, e) = Memᴰ.of_map listed_as (take l.count l.items) m in
+at_most_three l c m = let (x, i, e) = Memᴰ.of_map listed_as (items_in l.items) m in
     subst (λ (d : Listed). length d.places ≤ 3) e (omega (arith, length-take x.size x.places, x.few))
 
 same_some : (a b : List ℕ) → SameSet a b → 0 < length a → 0 < length b

@@ -1,5 +1,7 @@
 -- Choices that are made atom by atom.
-use Rattle.std.specs.Prelude.{◌≡◌, ℕ, suc, Bool, true, false, not, ◌&&◌, ◌||◌, List, [], ◌∷◌, ◌++◌, length, take, Some, None, Option, ◌==◌, nat_le, slice_index_or}
+use Rattle.std.specs.Prelude.{◌≡◌, ℕ, suc, Bool, true, false, not, ◌&&◌, ◌||◌, List, [], ◌∷◌, ◌++◌, map, length, take, Some, None, Option, ◌==◌, nat_le, slice_index_or}
+use Rattle.ordered.specs.Lists.{items_in}
+use Rattle.ordered.specs.declared.few.Few.{Few}
 use Rattle.store.specs.Lists.{all}
 use Rattle.store.specs.Rows.{same_row}
 use Rattle.store.specs.declared.row.Row.{Row}
@@ -7,15 +9,23 @@ use Rattle.rules.specs.Comparisons.{last_atom}
 use Rattle.rules.specs.Listing.{rows_at, is_held}
 use Rattle.rules.specs.Rules.{Denial, satisfied, of_relations}
 use Rattle.rules.specs.Sets.{distinct}
-use Rattle.rules.specs.declared.chosen.Chosen.{Chosen}
+use Rattle.rules.specs.declared.chosen.Pick.{Pick}
 use Rattle.rules.specs.declared.rule.Comparison.{Comparison}
+
+-- the rows of some picks
+abbrev pub rows_of_picks : List Pick → List Row
+rows_of_picks picks = map (λ p. p.row) picks
+
+-- a row for each of the first atoms
+abbrev pub Chosen : Type 0
+Chosen = Few Pick 3
 
 -- the places chosen, and the rows that were read there
 abbrev pub places_in : Chosen → List ℕ
-places_in c = take c.count c.places
+places_in c = map (λ p. p.place) (items_in c)
 
 abbrev pub rows_in : Chosen → List Row
-rows_in c = take c.count c.rows
+rows_in c = rows_of_picks (items_in c)
 
 -- the comparison holds, if the rows for its atoms are among these
 abbrev pub holds_so_far : List Row → Comparison → Bool

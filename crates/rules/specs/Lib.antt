@@ -13,4 +13,3 @@ pub mod Entries
 pub mod Beginnings
 pub mod Searching
 pub mod Upkeep
-pub mod PlaceOrder

@@ -1,6 +1,7 @@
 -- What a rule forbids among rows.
-use Rattle.std.specs.Prelude.{◌≡◌, ℕ, ◌≤◌, Bool, true, false, ◌&&◌, List, [], ◌∷◌, map, length, take, filter, ◌==◌, nat_eq, slice_index, slice_index_or}
+use Rattle.std.specs.Prelude.{◌≡◌, ℕ, ◌≤◌, Bool, true, false, ◌&&◌, List, [], ◌∷◌, map, length, filter, ◌==◌, nat_eq, slice_index, slice_index_or}
 use Rattle.std.specs.List.{flat_map}
+use Rattle.ordered.specs.Lists.{items_in}
 use Rattle.store.specs.Lists.{any, all}
 use Rattle.store.specs.Rows.{same_row}
 use Rattle.store.specs.Signs.{compares}
@@ -16,9 +17,9 @@ pub record Denial : Type 0 where
   pub atoms : List ℕ
   pub comparisons : List Comparison
 
--- the rule that the arrays and their counts hold
+-- the rule that the two lists hold
 abbrev pub denial : Rule → Denial
-denial rule = record { atoms = take rule.atom_count rule.atoms; comparisons = take rule.comparison_count rule.comparisons }
+denial rule = record { atoms = items_in rule.atoms; comparisons = items_in rule.comparisons }
 
 -- the number that a side stands for, when a row is chosen for each atom
 abbrev pub side_of : List Row → Side → ℕ

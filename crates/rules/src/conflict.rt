@@ -4,7 +4,8 @@ ghost use Rattle.std.specs.Prelude.{◌≡◌, ◌≤◌, length};
 pub mod making;
 pub mod order;
 
-// Eight bytes, so that a whole list is 8 KiB; places are below 256 and rules below 16.
+// Eight bytes, so that a whole list is 8 KiB: a `Few` of the places, with its count of eight bytes, would make it 24.
+// Places are below 256 and rules below 16.
 #[derive(Clone, Copy)]
 pub struct Conflict {
     places: [u16; 3],

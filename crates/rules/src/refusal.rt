@@ -14,12 +14,12 @@ pub enum Refusal {
     NoSuchColumn(usize),
 }
 
-impl Refusal {
-    // The number, layer and position that a person is told.
-    pub fn notice(self) -> Notice
-        ensures { result ≡ notice_of self }
-    {
-        match self {
+// The number, layer and position that a person is told.
+impl From<Refusal> for Notice {
+    ghost from_gives = { λ refusal notice. notice ≡ notice_of refusal };
+
+    fn from(refusal: Refusal) -> Notice {
+        match refusal {
             Refusal::Malformed => Notice::new(22, 0),
             Refusal::UndeclaredAtom(atom) => Notice::new(23, atom),
             Refusal::NoSuchColumn(comparison) => Notice::new(24, comparison),

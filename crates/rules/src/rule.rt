@@ -1,8 +1,10 @@
 // A rule: the relations of the rows that it forbids together, and what must hold among them.
-ghost use Rattle.std.specs.Prelude.{◌≡◌, ◌≤◌, true, length, take};
+ghost use Rattle.std.specs.Prelude.{◌≡◌, ◌<◌, true, length};
+ghost use Rattle.ordered.specs.Lists.{items_in};
 ghost use Rattle.store.specs.Lists.{all};
 ghost use Rattle.rules.specs.Comparisons.{within};
 
+use ordered::Few;
 use store::Sign;
 
 pub mod blank;
@@ -26,14 +28,8 @@ pub struct Comparison {
 // One to three atoms, each a relation number, and up to six comparisons.
 #[derive(Clone, Copy)]
 pub struct Rule {
-    atoms: [u16; 3],
-    atom_count: usize,
-    comparisons: [Comparison; 6],
-    comparison_count: usize,
-    ghost three: { length atoms ≡ 3 },
-    ghost some: { 1 ≤ atom_count },
-    ghost few: { atom_count ≤ 3 },
-    ghost six: { length comparisons ≡ 6 },
-    ghost counted: { comparison_count ≤ 6 },
-    ghost named: { all (within atom_count) (take comparison_count comparisons) ≡ true },
+    atoms: Few<u16, 3>,
+    comparisons: Few<Comparison, 6>,
+    ghost some: { 0 < length (items_in atoms) },
+    ghost named: { all (within (length (items_in atoms))) (items_in comparisons) ≡ true },
 }

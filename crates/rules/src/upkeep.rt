@@ -2,19 +2,16 @@
 //
 // A row that comes is tried for each atom of its relation, with one pass over the places for each further atom. Where the
 // conflicts do not fit the list, those of the row or of the rule that comes are taken out again.
-ghost use Rattle.std.specs.Prelude.{◌≡◌, ◌<◌, ◌≤◌, not, List, [], ◌∷◌, ◌++◌, map, length, Some, None, filter, Option, nat_eq, slice_set};
-ghost use Rattle.store.specs.Lists.{any};
+ghost use Rattle.std.specs.Prelude.{◌≡◌, ◌<◌, ◌≤◌, not, List, [], ◌∷◌, ◌++◌, map, length, Some, None, filter, Option, slice_set};
 ghost use Rattle.store.specs.Store.{at};
-ghost use Rattle.rules.specs.Choosing.{up_to};
 ghost use Rattle.rules.specs.Entries.{listing};
 ghost use Rattle.rules.specs.Listing.{Lists, is_conflict, touches};
 ghost use Rattle.rules.specs.Rules.{Denial, denial};
-ghost use Rattle.rules.specs.Searching.{FindSays};
-ghost use Rattle.rules.specs.Upkeep.{AddSays, RoundsSay, away_from};
+ghost use Rattle.rules.specs.Upkeep.{AddSays};
 
 use crate::list::Conflicts;
 use crate::rule::Rule;
-use crate::search::{Scope, find_conflicts};
+use crate::search::{Scope, Search};
 use ordered::Full;
 use store::{Row, Source};
 
@@ -32,50 +29,72 @@ pub fn add_place<S: Source>(
     let Some(row) = source.read(place) else {
         return Ok(());
     };
-    let added = add_each(source, rules, place as u16, &row, list);
-    if let Err(_) = added {
+    let arrival = Arrival {
+        source,
+        rules,
+        place: place as u16,
+        row,
+    };
+    let added = arrival.add_each(list);
+    if added.is_err() {
         list.drop_place(place);
     }
     added
 }
 
-// Goes through the rules, the least first, so that a conflict is told with the least that it breaks.
-fn add_each<S: Source>(
-    source: &S,
-    rules: &[Rule],
+// A row that has come: where it stands, and the rules that it may break.
+#[derive(Drop)]
+struct Arrival<'a, S: Source> {
+    source: &'a S,
+    rules: &'a [Rule],
     place: u16,
-    row: &Row,
-    list: &mut Conflicts,
-) -> Result<(), Full>
-    requires few { length rules.now ≤ 256 }
-    requires stands { at (S.Source.model source.now) place ≡ Some row.now }
-    requires others { Lists (up_to (S.Source.model source.now).places (map denial rules.now) (away_from place) 0) (listing list.old) }
-    ensures { RoundsSay (S.Source.model source.now).places (map denial rules.now) (away_from place) (listing list.new) result }
-{
-    for (number, rule) in rules.iter().enumerate() {
-        add_share(source, rule, number as u8, place, row, list)?;
-    }
-    Ok(())
+    row: Row,
+    ghost few: { length rules.now ≤ 256 },
+    ghost stands: { at (S.Source.model source.now) place ≡ Some row },
 }
 
-// Enters the conflicts that one rule makes with the row at a place, which can stand for each atom of its relation.
-fn add_share<S: Source>(
-    source: &S,
-    rule: &Rule,
-    number: u8,
-    place: u16,
-    row: &Row,
-    list: &mut Conflicts,
-) -> Result<(), Full>
-    requires stands { at (S.Source.model source.now) place ≡ Some row.now }
-    ensures { FindSays (S.Source.model source.now).places (denial rule.now) (any (nat_eq place)) number (listing list.old) (listing list.new) result }
-{
-    for atom in 0..rule.atom_count() {
-        if rule.relation(atom) == row.relation {
-            find_conflicts(source, rule, number, Scope::At { atom, place }, list)?;
+impl<S: Source> Arrival<'_, S> {
+    ghost use Rattle.std.specs.Prelude.{map, nat_eq};
+    ghost use Rattle.store.specs.Lists.{any};
+    ghost use Rattle.rules.specs.Choosing.{up_to};
+    ghost use Rattle.rules.specs.Entries.{listing};
+    ghost use Rattle.rules.specs.Listing.{Lists};
+    ghost use Rattle.rules.specs.Rules.{denial};
+    ghost use Rattle.rules.specs.Searching.{FindSays};
+    ghost use Rattle.rules.specs.Upkeep.{RoundsSay, away_from};
+
+    // Goes through the rules, the least first, so that a conflict is told with the least that it breaks.
+    fn add_each(&self, list: &mut Conflicts) -> Result<(), Full>
+        requires others { Lists (up_to (S.Source.model self.now.source.now).places (map denial self.now.rules.now) (away_from self.now.place) 0) (listing list.old) }
+        ensures { RoundsSay (S.Source.model self.now.source.now).places (map denial self.now.rules.now) (away_from self.now.place) (listing list.new) result }
+    {
+        for (number, rule) in self.rules.iter().enumerate() {
+            self.add_share(number as u8, rule, list)?;
         }
+        Ok(())
     }
-    Ok(())
+
+    // Enters the conflicts that one rule makes with the row, which can stand for each atom of its relation.
+    fn add_share(&self, number: u8, rule: &Rule, list: &mut Conflicts) -> Result<(), Full>
+        ensures { FindSays (S.Source.model self.now.source.now).places (denial rule.now) (any (nat_eq self.now.place)) number (listing list.old) (listing list.new) result }
+    {
+        for (atom, relation) in rule.atoms().iter().enumerate() {
+            if *relation == self.row.relation {
+                let scope = Scope::At {
+                    atom,
+                    place: self.place,
+                };
+                let search = Search {
+                    source: self.source,
+                    rule,
+                    number,
+                    scope,
+                };
+                search.run(list)?;
+            }
+        }
+        Ok(())
+    }
 }
 
 // Adds the conflicts that a further rule makes to the list, which has those of the rules before it.
@@ -89,10 +108,15 @@ pub fn add_rule<S: Source>(
     requires exact { Lists (is_conflict (S.Source.model source.now).places (map denial rules.now)) (listing list.old) }
     ensures { AddSays (S.Source.model source.now).places (map denial rules.now ++ denial rule.now ∷ []) (listing list.old) (listing list.new) result }
 {
-    let number = rules.len() as u8;
-    let added = find_conflicts(source, rule, number, Scope::All, list);
-    if let Err(_) = added {
-        list.drop_rule(number);
+    let search = Search {
+        source,
+        rule,
+        number: rules.len() as u8,
+        scope: Scope::All,
+    };
+    let added = search.run(list);
+    if added.is_err() {
+        list.drop_rule(search.number);
     }
     added
 }

@@ -1,11 +1,14 @@
 // What a conflict tells, and which of two comes first.
-ghost use Rattle.std.specs.Prelude.{◌≡◌};
-ghost use Rattle.rules.specs.Views.{listed_as, by_places};
-ghost use Rattle.ordered.specs.Columnwise.{by_key};
-ghost use Rattle.rules.specs.declared.conflict.Conflict.{Conflict};
+ghost use Rattle.std.specs.Prelude.{◌≡◌, ◌==◌, nat_eq};
+ghost use Rattle.std.proofs.Common.{rules};
+ghost use Rattle.std.specs.Cmp.{partial_order_from_own_ties};
+ghost use Rattle.std.specs.Cmp.Lexicographic.{pointwise, slice_cmp};
+ghost use Rattle.std.specs.Cmp.Rules.{comparing};
+ghost use Rattle.std.specs.Ordering.{as_partial_cmp, nat_cmp, on};
+ghost use Rattle.rules.specs.Listing.{touches};
+ghost use Rattle.rules.specs.Views.{listed_as};
 
 use super::Conflict;
-use ordered::Ordered;
 use std::cmp::Ordering;
 
 impl Conflict {
@@ -29,14 +32,50 @@ impl Conflict {
     {
         self.rule
     }
+
+    // Whether the row at a place is one of its rows.
+    pub(crate) fn touches(&self, place: usize) -> bool
+        ensures { result ≡ touches place (listed_as self.now) }
+    {
+        self.places().iter().any(|other| place == *other as usize)
+    }
 }
 
-impl Ordered for Conflict {
-    ghost order = { λ a b. by_places (listed_as a) (listed_as b) };
+// Conflicts are compared by their places alone: a derive would compare the rule too, and the places that are not in use.
+impl Ord for Conflict {
+    ghost cmp = { on (λ c. (listed_as c).places) (slice_cmp nat_cmp) };
 
-    ghost orderly = { by_key (λ (c : Conflict). (listed_as c).places) };
+    ghost total = { Prim.search (comparing, rules) };
 
-    fn compare(&self, other: &Conflict) -> Ordering {
+    ghost matches_partial_cmp = { Prim.search (comparing, rules) };
+
+    ghost matches_eq = { Prim.search (comparing, rules) };
+
+    fn cmp(&self, other: &Conflict) -> Ordering {
         self.places().cmp(&other.places())
+    }
+}
+
+impl PartialOrd for Conflict {
+    ghost partial_cmp = { as_partial_cmp (on (λ c. (listed_as c).places) (slice_cmp nat_cmp)) };
+
+    ghost laws = { partial_order_from_own_ties (Prim.search (comparing, rules)) (Prim.search (comparing, rules)) };
+
+    fn partial_cmp(&self, other: &Conflict) -> Option<Ordering> {
+        Some(self.cmp(other))
+    }
+}
+
+impl Eq for Conflict {
+    ghost laws = { Prim.search (comparing, rules) };
+}
+
+impl PartialEq for Conflict {
+    ghost eq = { on (λ c. (listed_as c).places) (pointwise ◌==◌) };
+
+    ghost laws = { Prim.search (comparing, rules) };
+
+    fn eq(&self, other: &Conflict) -> bool {
+        self.places() == other.places()
     }
 }

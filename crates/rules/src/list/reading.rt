@@ -7,6 +7,7 @@ ghost use Rattle.rules.specs.Views.{listed_as};
 
 use super::Conflicts;
 use crate::conflict::Conflict;
+use ordered::Few;
 
 impl Conflicts {
     // A list of none.
@@ -14,8 +15,7 @@ impl Conflicts {
         ensures { listing result ≡ [] }
     {
         Conflicts {
-            items: [Conflict::NONE; 1024],
-            count: 0,
+            items: Few::new(Conflict::NONE),
         }
     }
 
@@ -23,17 +23,13 @@ impl Conflicts {
     pub fn len(&self) -> usize
         ensures { result ≡ length (listing self.now) }
     {
-        self.count
+        self.items.len()
     }
 
     // The conflict with this number in the list, which counts from 0.
     pub fn get(&self, i: usize) -> Option<Conflict>
         ensures { option_map listed_as result ≡ slice_get (listing self.now) i }
     {
-        if i < self.count {
-            Some(self.items[i])
-        } else {
-            None
-        }
+        self.items.as_slice().get(i).copied()
     }
 }

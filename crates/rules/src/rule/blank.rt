@@ -1,20 +1,28 @@
 // What stands in an array of rules where no rule does.
+ghost use Rattle.std.specs.Prelude.{◌≡◌, [], ◌∷◌};
+ghost use Rattle.rules.specs.Rules.{denial};
+
 use super::{Comparison, Rule, Side};
+use ordered::Few;
 use store::Sign;
+
+impl Comparison {
+    // What stands behind a rule's last comparison.
+    pub(crate) const BLANK: Comparison = Comparison {
+        left: Side::Constant(0),
+        sign: Sign::Equal,
+        right: Side::Constant(0),
+    };
+}
 
 impl Rule {
     // A rule that is never looked at: it fills an array up.
-    pub fn blank() -> Rule {
-        let none = Comparison {
-            left: Side::Constant(0),
-            sign: Sign::Equal,
-            right: Side::Constant(0),
-        };
+    pub fn blank() -> Rule
+        ensures { denial result ≡ record { atoms = 0 ∷ []; comparisons = [] } }
+    {
         Rule {
-            atoms: [0; 3],
-            atom_count: 1,
-            comparisons: [none; 6],
-            comparison_count: 0,
+            atoms: Few::of(&[0], 0),
+            comparisons: Few::new(Comparison::BLANK),
         }
     }
 }

@@ -1,55 +1,38 @@
 // Which rows a rule forbids together, row by row.
-ghost use Rattle.std.specs.Prelude.{◌≡◌, ◌<◌, true, length, slice_index};
+ghost use Rattle.std.specs.Prelude.{◌≡◌, true, length, map};
 ghost use Rattle.store.specs.Lists.{all};
-ghost use Rattle.rules.specs.Beginnings.{holds_at_last};
+ghost use Rattle.rules.specs.Beginnings.{holds_at_last, rows_of_picks};
 ghost use Rattle.rules.specs.Comparisons.{last_atom, side_atom, side_within, within};
 ghost use Rattle.rules.specs.Rules.{denial, satisfied, side_of};
 
 use super::{Comparison, Rule, Side};
-use store::Row;
+use crate::chosen::Pick;
 
 impl Rule {
-    // How many rows it takes to break the rule.
-    pub(crate) fn atom_count(&self) -> usize
-        ensures { result ≡ length (denial self.now).atoms }
+    // The relations of the rows that it takes to break the rule.
+    pub(crate) fn atoms(&self) -> &[u16]
+        ensures { result.now ≡ (denial self.now).atoms }
     {
-        self.atom_count
-    }
-
-    // The relation of an atom.
-    pub(crate) fn relation(&self, atom: usize) -> u16
-        requires { atom < length (denial self.now).atoms }
-        ensures { result ≡ slice_index (denial self.now).atoms atom }
-    {
-        self.atoms[atom]
-    }
-
-    // The comparisons, as many as there are.
-    fn comparisons(&self) -> &[Comparison]
-        ensures { result.now ≡ (denial self.now).comparisons }
-    {
-        &self.comparisons[0..self.comparison_count]
+        self.atoms.as_slice()
     }
 
     // Whether the comparisons hold that could not be decided before the last of these rows.
-    pub(crate) fn holds_at_last(&self, rows: &[Row]) -> bool
-        ensures { result ≡ all (holds_at_last rows.now) (denial self.now).comparisons }
+    pub(crate) fn holds_at_last(&self, picks: &[Pick]) -> bool
+        ensures { result ≡ all (holds_at_last (rows_of_picks picks.now)) (denial self.now).comparisons }
     {
-        for comparison in self.comparisons() {
-            if !holds_if_last(comparison, rows) {
-                return false;
-            }
-        }
-        true
+        self.comparisons
+            .as_slice()
+            .iter()
+            .all(|comparison| holds_if_last(comparison, picks))
     }
 }
 
 // Whether a comparison holds, if it waited for the last of these rows.
-fn holds_if_last(comparison: &Comparison, rows: &[Row]) -> bool
+fn holds_if_last(comparison: &Comparison, picks: &[Pick]) -> bool
     requires { within 3 comparison.now ≡ true }
-    ensures { result ≡ holds_at_last rows.now comparison.now }
+    ensures { result ≡ holds_at_last (rows_of_picks picks.now) comparison.now }
 {
-    last_atom(comparison) as usize + 1 != rows.len() || holds(comparison, rows)
+    last_atom(comparison) as usize + 1 != picks.len() || holds(comparison, picks)
 }
 
 // The atom that a comparison waits for.
@@ -70,20 +53,23 @@ fn side_atom(side: Side) -> u8
 }
 
 // Whether the comparison holds of rows that it names.
-fn holds(comparison: &Comparison, rows: &[Row]) -> bool
-    requires { within (length rows.now) comparison.now ≡ true }
-    ensures { result ≡ satisfied rows.now comparison.now }
+fn holds(comparison: &Comparison, picks: &[Pick]) -> bool
+    requires { within (length picks.now) comparison.now ≡ true }
+    ensures { result ≡ satisfied (rows_of_picks picks.now) comparison.now }
 {
-    comparison.sign.holds(value(comparison.left, rows), value(comparison.right, rows))
+    comparison.sign.holds(
+        value(comparison.left, picks),
+        value(comparison.right, picks),
+    )
 }
 
 // The number that a side stands for.
-fn value(side: Side, rows: &[Row]) -> u32
-    requires { side_within (length rows.now) side ≡ true }
-    ensures { result ≡ side_of rows.now side }
+fn value(side: Side, picks: &[Pick]) -> u32
+    requires { side_within (length picks.now) side ≡ true }
+    ensures { result ≡ side_of (rows_of_picks picks.now) side }
 {
     match side {
-        Side::Column { atom, column } => rows[atom as usize].columns[column as usize],
+        Side::Column { atom, column } => picks[atom as usize].row.columns[column as usize],
         Side::Constant(n) => n,
     }
 }

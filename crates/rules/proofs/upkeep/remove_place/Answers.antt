@@ -4,10 +4,7 @@ use Rattle.rules.proofs.Emptied.{emptied, others_alike}
 use Rattle.rules.proofs.OnePlace.{strikes}
 use Rattle.rules.proofs.upkeep.remove_place.Goals as goal
 
-pub returns : goal.returns
-returns c =
+pub returns-clause-exact : goal.returns-clause-exact
+returns-clause-exact c table rules ls =
     let p = c.args.emptied in
-    record {
-      list = c.drop_place.ensures;
-      exact = λ table rules ls. subst (Lists (is_conflict (set table p None) rules)) (sym c.drop_place.ensures) (strikes (set table p None) table p (others_alike table p) (emptied table p) rules _ ls);
-    }
+    subst (Lists (is_conflict (set table p None) rules)) (sym c.drop_place.ensures) (strikes (set table p None) table p (others_alike table p) (emptied table p) rules _ ls)

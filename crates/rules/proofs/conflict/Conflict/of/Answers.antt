@@ -1,22 +1,26 @@
-use Rattle.std.proofs.Common.{◌<◌, length, take, ap, ◌∙◌, arith}
-use Rattle.std.proofs.lemmas.List.{take_more, take_all, length-take}
-use Rattle.rules.proofs.Sorting.{sorted_more, sorted_full, sorted_made}
+use Rattle.std.proofs.Common.{◌<◌, map, length, take, [], ap, ◌∙◌, sym, subst, arith}
+use Rattle.std.proofs.lemmas.Grind.{common_steps}
+use Rattle.std.proofs.lemmas.List.{take_more, take_all, map-append, length-map, length-take}
+use Rattle.ordered.specs.Lists.{items_in}
+use Rattle.rules.specs.declared.chosen.Pick.{Pick}
+use Rattle.rules.proofs.Sorting.{Sorted, sorted_none, sorted_more, sorted_made}
 use Rattle.rules.proofs.conflict.Conflict.of.Goals as goal
-use Rattle.rules.proofs.conflict.Conflict.of.Goals.{in-Ok, in_default}
 
-pub loop-place-preserved : goal.loop-place-preserved
-loop-place-preserved c =
-    let items = c.places-place-items.result.now in
-    let i = c.loop-place.place-index in
-    let chosen = c.args.chosen.now in
-    let three : length (take i items) < 3 = omega (arith, length-take i items, ap length c.loop-place.invariant.0, length-take chosen.count chosen.places, chosen.few) in
-    let (same, so) = c.loop-place.invariant in
-    elim c.match-enter.branch [
-      | in-Ok w ↦ (same, sorted_more so _ three c.enter.auto.items w.in-Ok.ensures (take_more items i 0 (omega arith)) w.size-is)
-      | in_default w ↦ absurd (sorted_full so _ three w.in_default.ensures)
-    ]
+pub loop-pick-init : goal.loop-pick-init
+loop-pick-init c = (c.as_slice-pick-items.ensures.items, subst (Sorted []) (sym c.new-sorted.ensures) sorted_none)
+
+pub loop-pick-preserved : goal.loop-pick-preserved
+loop-pick-preserved c =
+    let items = c.as_slice-pick-items.result.now in
+    let i = c.loop-pick.pick-index in
+    let (same, so) = c.loop-pick.invariant in
+    let room : length (map (λ (p : Pick). p.place) (take i items)) < 3 = omega (arith, length-map (take i items) (λ (p : Pick). p.place), length-take i items, c.as_slice-pick-items.ensures.within) in
+    (same, sorted_more so _ room (ap (map (λ (p : Pick). p.place)) (take_more items i _ (omega arith)) ∙ map-append (λ (p : Pick). p.place) (take i items) _) _ c.enter.ensures)
 
 pub returns : goal.returns
 returns c =
-    let all_seen = take_all c.loop-place.place-index c.places-place-items.result.now (omega arith) ∙ c.loop-place.invariant.0 in
-    sorted_made c.loop-place.invariant.1 all_seen (record { 0 = 0 }) c.args.rule
+    let (same, so) = c.loop-pick.invariant in
+    let seen = ap (map (λ (p : Pick). p.place)) (take_all c.loop-pick.pick-index c.as_slice-pick-items.result.now (omega arith) ∙ same) in
+    let after = c.copy_from_slice.ensures.after in
+    let items = c.as_slice.ensures.items in
+    sorted_made (subst (λ l. Sorted l (items_in c.loop-pick.sorted)) seen so) (grind (arith, common_steps)) c.args.rule

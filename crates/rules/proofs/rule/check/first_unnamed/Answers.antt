@@ -1,12 +1,10 @@
-use Rattle.std.proofs.Common.{sym, arith}
-use Rattle.rules.proofs.Failing.{failed, passed_more, passed_all}
+use Rattle.std.proofs.Common.{rules}
+use Rattle.store.proofs.Firsts.{first_from_position}
+use Rattle.rules.specs.Refusals.{names}
+use Rattle.rules.proofs.Failing.{failing, fail_says}
 use Rattle.rules.proofs.rule.check.first_unnamed.Goals as goal
 
-pub returns-then-not-names_columns : goal.returns-then-not-names_columns
-returns-then-not-names_columns g c = failed _ _ _ _ (omega arith) c.loop-index.invariant (sym c.if-not-names_columns.ensures)
-
-pub loop-index-preserved : goal.loop-index-preserved
-loop-index-preserved g c = passed_more _ _ _ _ (omega arith) c.loop-index.invariant (sym c.if-not-names_columns.ensures)
-
 pub returns : goal.returns
-returns g c = passed_all _ _ _ (omega arith) c.loop-index.invariant
+returns g c =
+    let test = names (g.S.Source.model c.args.source.now).arity c.args.atoms.now in
+    fail_says test c.args.comparisons.now _ (first_from_position (failing test) c.args.comparisons.now c.position.ensures.ran c.iter.ensures.rest (λ x b q k. search rules))
