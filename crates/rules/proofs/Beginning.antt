@@ -2,7 +2,9 @@
 use Rattle.std.proofs.Common.{◌≡◌, ℕ, suc, ◌<◌, ◌≤◌, Bool, true, false, not, ◌&&◌, eqb, leb, List, [], ◌∷◌, ◌++◌, map, length, get_or, take, is_some, Some, None, Option, sym, refl, ap, ◌∙◌, subst, ap₂, inl, inr, ⊎_elim, arith}
 use mathlib.Core.List.Memᴰ
 use mathlib.Core.List.{Memᴰ}
-use Rattle.std.proofs.lemmas.List.{append_assoc, map-append, get_or_append_left, length-map, length_push, take_all}
+use Rattle.std.proofs.lemmas.List.{map-append, get_or_append_left, length-map, length_push, take_all}
+use Rattle.std.proofs.lemmas.Grind.{flat_map-append}
+use Rattle.std.proofs.lemmas.List.Folds.{list_all-append}
 use Rattle.std.proofs.lemmas.Bool.{both_ways, and_parts, and_from, or_cases, or_left, or_right, lt-leb, le-leb, eq-eqb, ne_eqb, not_from_true, not_from_false, cases_eq, cases_lt}
 use Rattle.store.specs.Lists.{any, all}
 use Rattle.store.specs.Places.{OnceIn}
@@ -23,20 +25,15 @@ use Rattle.rules.specs.declared.rule.Side.TheVariants.{Column, Constant}
 use Rattle.rules.specs.declared.rule.Comparison.{Comparison}
 use Rattle.rules.proofs.Apart.{apart_first, apart_rest, apart_put}
 use Rattle.rules.proofs.Ascents.{place_in, place_has}
-use Rattle.rules.proofs.Choosing.{at_pick, at_put, held_row}
+use Rattle.rules.proofs.Choosing.{at_pick, at_put, rows_length}
 use Rattle.rules.proofs.Naming.{last_within}
 
 module _ {A : Type 0} (test : A → Bool) where
   all_split : (xs ys : List A) → all test (xs ++ ys) ≡ true → (all test xs ≡ true) × (all test ys ≡ true)
-  all_split [] ys h = (refl, h)
-  all_split (x ∷ xs) ys h =
-      let (a, b) = and_parts (test x) (all test (xs ++ ys)) h in
-      let (c, d) = all_split xs ys b in
-      (and_from (test x) (all test xs) a c, d)
+  all_split xs ys h = and_parts (all test xs) (all test ys) (sym (list_all-append test xs ys) ∙ h)
 
   all_join : (xs ys : List A) → all test xs ≡ true → all test ys ≡ true → all test (xs ++ ys) ≡ true
-  all_join [] ys h k = k
-  all_join (x ∷ xs) ys h k = let (a, b) = and_parts (test x) (all test xs) h in and_from (test x) (all test (xs ++ ys)) a (all_join xs ys b k)
+  all_join xs ys h k = list_all-append test xs ys ∙ and_from (all test xs) (all test ys) h k
 
 module _ {A : Type 0} (same : A → A → Bool) where
   apart_split : (xs ys : List A) → distinct same (xs ++ ys) ≡ true → distinct same xs ≡ true
@@ -125,18 +122,10 @@ module _ (table : List (Option Row)) where
   held_at p = is_held (get_or table p None)
 
   rows_append : (xs ys : List ℕ) → rows_at table (xs ++ ys) ≡ rows_at table xs ++ rows_at table ys
-  rows_append [] ys = refl
-  rows_append (p ∷ xs) ys = ap (λ l. given (get_or table p None) ++ l) (rows_append xs ys) ∙ sym (append_assoc (given (get_or table p None)) (rows_at table xs) (rows_at table ys))
+  rows_append = flat_map-append (λ p. given (get_or table p None))
 
   pub rows_push : (xs : List ℕ) (p : ℕ) (r : Row) → get_or table p None ≡ Some r → rows_at table (xs ++ p ∷ []) ≡ rows_at table xs ++ r ∷ []
   rows_push xs p r e = rows_append xs (p ∷ []) ∙ ap (λ o. rows_at table xs ++ (given o ++ [])) e
-
-  pub rows_length : (xs : List ℕ) → all held_at xs ≡ true → length (rows_at table xs) ≡ length xs
-  rows_length [] h = refl
-  rows_length (p ∷ xs) h =
-      let (a, b) = and_parts (held_at p) (all held_at xs) h in
-      let (r, e) = held_row (get_or table p None) a in
-      ap (λ o. length (given o ++ rows_at table xs)) e ∙ ap suc (rows_length xs b)
 
   module _ (rule : Denial) where
     abbrev cs : List Comparison
@@ -152,7 +141,7 @@ module _ (table : List (Option Row)) where
         (a, c, e, f)
 
     pub begins_long : (xs : List ℕ) → begins table rule xs ≡ true → length xs ≤ length rule.atoms
-    begins_long xs h = let (a, b, c, d) = begins_parts xs h in omega (arith, rows_length xs a, relations_long rule.atoms (rows_at table xs) b)
+    begins_long xs h = let (a, b, c, d) = begins_parts xs h in omega (arith, rows_length table xs a, relations_long rule.atoms (rows_at table xs) b)
 
     begins_from : (xs : List ℕ) → all held_at xs ≡ true → of_relations (take (length (rows_at table xs)) rule.atoms) (rows_at table xs) ≡ true → distinct same_row (rows_at table xs) ≡ true → all (holds_so_far (rows_at table xs)) cs ≡ true → begins table rule xs ≡ true
     begins_from xs a b c d = and_from _ _ a (and_from _ _ b (and_from _ _ c d))
@@ -175,7 +164,7 @@ module _ (table : List (Option Row)) where
     begins_choice xs named pos long h =
         let (a, b, c, d) = begins_parts xs h in
         let rows : List Row = rows_at table xs in
-        let same : length rows ≡ length rule.atoms = rows_length xs a ∙ long in
+        let same : length rows ≡ length rule.atoms = rows_length table xs a ∙ long in
         let all-of-them : of_relations rule.atoms rows ≡ true = subst (λ l. of_relations l rows ≡ true) (take_all (length rows) rule.atoms (omega arith)) b in
         record {
           held = a;
@@ -185,9 +174,6 @@ module _ (table : List (Option Row)) where
 
     -- one place more
     module _ (xs : List ℕ) (p : ℕ) where
-      pub push_empty : get_or table p None ≡ None → begins table rule (xs ++ p ∷ []) ≡ false
-      push_empty none = from_not _ (λ h. both_ways _ (ap is_held none) (and_parts (held_at p) true (all_split held_at xs (p ∷ []) (begins_parts (xs ++ p ∷ []) h).0).1).0)
-
       module _ (r : Row) (stands : get_or table p None ≡ Some r) where
         abbrev rows' : List Row
         rows' = rows_at table xs ++ r ∷ []

@@ -89,12 +89,12 @@ module _ (table : List (Option Row)) where
       )
 
   -- each place adds its row
-  length_rows : (chosen : List ℕ) → all held_at chosen ≡ true → length (rows_at table chosen) ≡ length chosen
-  length_rows [] h = refl
-  length_rows (p ∷ chosen) h =
+  pub rows_length : (chosen : List ℕ) → all held_at chosen ≡ true → length (rows_at table chosen) ≡ length chosen
+  rows_length [] h = refl
+  rows_length (p ∷ chosen) h =
       let (a, b) = and_parts (held_at p) (all held_at chosen) h in
       let (r, e) = held_row (get_or table p None) a in
-      ap (λ o. length (given o ++ rows_at table chosen)) e ∙ ap suc (length_rows chosen b)
+      ap (λ o. length (given o ++ rows_at table chosen)) e ∙ ap suc (rows_length chosen b)
 
   apart_places : (chosen : List ℕ) → all held_at chosen ≡ true → distinct same_row (rows_at table chosen) ≡ true → distinct eqb chosen ≡ true
   apart_places [] h k = refl
@@ -121,4 +121,4 @@ by_choice table once rule places held = (
 pub choice_apart : ChoiceApart
 choice_apart table rule chosen c =
     let (a, b) = breaks_parts rule (rows_at table chosen) c.broken in
-    (sym (length_rows table chosen c.held) ∙ one_each rule.atoms (rows_at table chosen) a, apart_places table chosen c.held b)
+    (sym (rows_length table chosen c.held) ∙ one_each rule.atoms (rows_at table chosen) a, apart_places table chosen c.held b)

@@ -1,6 +1,5 @@
 -- What comparisons name: columns of a row, and atoms of their rule.
-use Rattle.std.proofs.Common.{◌≡◌, ℕ, ◌<◌, ◌≤◌, true, ltb, List, [], ◌∷◌, map, length, get_or, refl, ap, ◌∙◌, subst, arith}
-use mathlib.Core.List.Memᴰ
+use Rattle.std.proofs.Common.{◌≡◌, ℕ, ◌<◌, ◌≤◌, true, ltb, List, [], ◌∷◌, map, length, get_or, refl, ap, ◌∙◌, arith}
 use Rattle.std.proofs.lemmas.List.{get_or-map, length-map}
 use Rattle.std.proofs.lemmas.Bool.{and_parts, and_from, ltb-true, lt-ltb}
 use Rattle.std.proofs.lemmas.List.Sums.{AllPass-from_list_all}
@@ -10,8 +9,7 @@ use Rattle.rules.specs.Beginnings.{rows_of_picks}
 use Rattle.rules.specs.declared.chosen.Pick.{Pick}
 use Rattle.rules.specs.Comparisons.{side_within, within, side_atom, last_atom}
 use Rattle.rules.specs.Refusals.{side_names, names}
-use Rattle.rules.specs.Laws.{HasAtoms}
-use Rattle.rules.specs.Rules.{Denial, denial}
+use Rattle.rules.specs.Rules.{denial}
 use Rattle.rules.specs.declared.rule.Rule.{Rule}
 use Rattle.rules.specs.declared.rule.Side.{Side}
 use Rattle.rules.specs.declared.rule.Side.TheVariants.{Column, Constant}
@@ -61,10 +59,6 @@ within_three r k d lt =
     let n = length (denial r).atoms in
     let here = AllPass-from_list_all (within n) (denial r).comparisons r.named k d lt in
     waits n 3 (get_or (denial r).comparisons k d) here (omega (arith, last_within n (get_or (denial r).comparisons k d) r.some here, items_few r.atoms))
-
--- so each of some rules has an atom
-pub has_atoms : (rules : List Rule) → HasAtoms (map denial rules)
-has_atoms rules d m = let (r, i, e) = Memᴰ.of_map denial rules m in subst (λ (x : Denial). 0 < length x.atoms) e r.some
 
 -- the columns of the row that is chosen for an atom
 pub chosen_columns : (picks : List Pick) (atom : ℕ) (d : Pick) → atom < length picks → get_or (map (λ (r : Row). r.columns) (rows_of_picks picks)) atom [] ≡ (get_or picks atom d).row.columns

@@ -12,7 +12,8 @@ use Rattle.rules.specs.Beginnings.{Chosen, places_in, rows_in, holds_at_last, be
 use Rattle.rules.specs.Listing.{rows_at}
 use Rattle.rules.specs.Rules.{Denial}
 use Rattle.rules.specs.declared.chosen.Pick.{Pick}
-use Rattle.rules.proofs.Beginning.{rows_length, rows_push, begins_parts, push_parts, push_begins}
+use Rattle.rules.proofs.Choosing.{rows_length}
+use Rattle.rules.proofs.Beginning.{rows_push, begins_parts, push_parts, push_begins}
 
 module _ {table : List (Option Row)} {rule : Denial} {c : Chosen} (so : Begun table rule c) (p : ℕ) (r : Row) (stands : get_or table p None ≡ Some r) where
   abbrev more : List ℕ

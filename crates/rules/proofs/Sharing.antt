@@ -9,8 +9,7 @@ use Rattle.rules.specs.Listing.{Listed, rows_at, is_held}
 use Rattle.rules.specs.Rules.{Denial, of_relations}
 use Rattle.rules.specs.Searching.{Grown, Has}
 use Rattle.rules.proofs.Breaking.{breaks_parts}
-use Rattle.rules.proofs.Beginning.{rows_length}
-use Rattle.rules.proofs.Choosing.{choice_apart, held_row}
+use Rattle.rules.proofs.Choosing.{choice_apart, held_row, rows_length}
 use Rattle.rules.proofs.Growing.{grown_more, has_still}
 
 relation_at : (atoms : List ℕ) (rows : List Row) (a : ℕ) (d : Row) → of_relations atoms rows ≡ true → a < length rows → get_or atoms a 0 ≡ (get_or rows a d).relation

@@ -52,7 +52,7 @@ impl Ord for Conflict {
     ghost matches_eq = { Prim.search (comparing, rules) };
 
     fn cmp(&self, other: &Conflict) -> Ordering {
-        self.places().cmp(&other.places())
+        self.places().cmp(other.places())
     }
 }
 

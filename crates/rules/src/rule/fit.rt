@@ -57,10 +57,9 @@ fn holds(comparison: &Comparison, picks: &[Pick]) -> bool
     requires { within (length picks.now) comparison.now ≡ true }
     ensures { result ≡ satisfied (rows_of_picks picks.now) comparison.now }
 {
-    comparison.sign.holds(
-        value(comparison.left, picks),
-        value(comparison.right, picks),
-    )
+    let left = value(comparison.left, picks);
+    let right = value(comparison.right, picks);
+    comparison.sign.holds(left, right)
 }
 
 // The number that a side stands for.

@@ -1,13 +1,11 @@
 use Rattle.std.proofs.Common.{◌≡◌, ℕ, ◌≤◌, ◌<◌, ◌++◌, ◌∷◌, [], length, sym, subst, refl, ap, ◌∙◌, ap₂, arith}
-use Rattle.std.proofs.lemmas.List.{length-map}
 use Rattle.std.proofs.lemmas.Result.{err_from_is_err_and}
-use Rattle.ordered.specs.Lists.{items_in}
 use Rattle.rules.specs.Beginnings.{places_in}
 use Rattle.rules.specs.Entries.{listing}
 use Rattle.rules.specs.Rules.{denial}
 use Rattle.rules.specs.Searching.{span_of, HasAll}
-use Rattle.rules.specs.declared.chosen.Pick.{Pick}
 use Rattle.rules.proofs.Beginning.{begins_choice, begins_long}
+use Rattle.rules.proofs.Fews.{places_long}
 use Rattle.rules.proofs.Growing.{whole_says, grown_none, grown_more, all_none, all_next, tried}
 use Rattle.rules.proofs.search.Search.+extend.Goals as goal
 
@@ -16,14 +14,14 @@ returns-then-atom-atoms g t c =
     let table = (g.S.Source.model c.args.self.now.source.now).places in
     let rule = c.args.self.now.rule.now in
     let begun = places_in c.args.chosen in
-    let whole : length begun ≡ length (denial rule).atoms = length-map (items_in c.args.chosen) (λ (x : Pick). x.place) ∙ sym c.len-atom.ensures.length ∙ c.if-atom-atoms.true ∙ ap length c.atoms.ensures in
+    let whole : length begun ≡ length (denial rule).atoms = places_long c.args.chosen ∙ sym c.len-atom.ensures.length ∙ c.if-atom-atoms.true ∙ ap length c.atoms.ensures in
     let choice = begins_choice table (denial rule) begun rule.named rule.some whole c.requires.begun.begun in
     whole_says c.args.self.now.scope (listing c.args.list.now) (listing c.enter.new.self) c.enter.result c.enter.ensures c.args.list.now.rising choice c.of.ensures whole
 
 pub choose-requires-clause-room : goal.choose-requires-clause-room
 choose-requires-clause-room g t c =
     let long = begins_long (g.S.Source.model c.args.self.now.source.now).places (denial c.args.self.now.rule.now) (places_in c.args.chosen) c.requires.begun.begun in
-    omega (arith, long, length-map (items_in c.args.chosen) (λ (x : Pick). x.place), c.len-atom.ensures.length, ap length c.atoms.ensures, c.if-atom-atoms.false)
+    omega (arith, long, places_long c.args.chosen, c.len-atom.ensures.length, ap length c.atoms.ensures, c.if-atom-atoms.false)
 
 pub returns-in_err-extend : goal.returns-in_err-extend
 returns-in_err-extend g t c =
@@ -44,7 +42,7 @@ pub returns : goal.returns
 returns g t c =
     let begun = places_in c.args.chosen in
     let long = begins_long (g.S.Source.model c.args.self.now.source.now).places (denial c.args.self.now.rule.now) begun c.requires.begun.begun in
-    let of_picks = length-map (items_in c.args.chosen) (λ (x : Pick). x.place) in
+    let of_picks = places_long c.args.chosen in
     let (end, grown, before) = c.loop-place.invariant in
     let span = c.span-place-items.ensures ∙ ap₂ (span_of c.args.self.now.scope) (c.len-atom.ensures.length ∙ sym of_picks) c.places.ensures in (
       grown,
