@@ -1,13 +1,10 @@
-use Rattle.std.proofs.Common.{◌<◌, map, length, take, [], ap, ◌∙◌, sym, subst, arith}
+use Rattle.std.proofs.Common.{◌<◌, map, length, take, ap, ◌∙◌, subst, arith}
 use Rattle.std.proofs.lemmas.Grind.{common_steps}
 use Rattle.std.proofs.lemmas.List.{take_more, take_all, map-append, length-map, length-take}
 use Rattle.ordered.specs.Lists.{items_in}
 use Rattle.rules.specs.declared.chosen.Pick.{Pick}
-use Rattle.rules.proofs.Sorting.{Sorted, sorted_none, sorted_more, sorted_made}
+use Rattle.rules.proofs.Sorting.{Sorted, sorted_more, sorted_made}
 use Rattle.rules.proofs.conflict.Conflict.of.Goals as goal
-
-pub loop-pick-init : goal.loop-pick-init
-loop-pick-init c = (c.as_slice-pick-items.ensures.items, subst (Sorted []) (sym c.new-sorted.ensures) sorted_none)
 
 pub loop-pick-preserved : goal.loop-pick-preserved
 loop-pick-preserved c =
