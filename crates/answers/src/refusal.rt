@@ -12,12 +12,12 @@ pub enum Refusal {
     Column(usize),
 }
 
-impl Refusal {
-    // The number, layer and position that a person is told.
-    pub fn notice(self) -> Notice
-        ensures { result ≡ notice_of self }
-    {
-        match self {
+// The number, layer and position that a person is told.
+impl From<Refusal> for Notice {
+    ghost from_gives = { λ refusal notice. notice ≡ notice_of refusal };
+
+    fn from(refusal: Refusal) -> Notice {
+        match refusal {
             Refusal::Arity(position) => Notice::new(41, position),
             Refusal::Column(position) => Notice::new(42, position),
         }

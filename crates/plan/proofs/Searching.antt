@@ -39,19 +39,19 @@ module _ (plan : Plan) (rows : List Row) where
   abbrev pub Finds : ℕ → List ℕ → Start → Option (List ℕ) → Type 0
   Finds k at start r = Least (Cands k) start (take (Wide k) at) (Wide k) r
 
-  module _ (k : ℕ) (h : k < plan.count) (at : List ℕ) (start : Start) where
-    are : (n : Node) → get_or plan.nodes k blank ≡ n → Cands k ≡ candidates_of rows (grown (candidates_of rows) [] (nodes_of plan)) n
+  module _ (k : ℕ) (h : k < length (nodes_of plan)) (at : List ℕ) (start : Start) where
+    are : (n : Node) → get_or (nodes_of plan) k blank ≡ n → Cands k ≡ candidates_of rows (grown (candidates_of rows) [] (nodes_of plan)) n
     are n e = candidates_at_lem plan rows k h ∙ ap (candidates_of rows (grown (candidates_of rows) [] (nodes_of plan))) e
 
     -- by the candidates and the width of the node
     moved : (cs : List (List ℕ)) (w : ℕ) → Cands k ≡ cs → Wide k ≡ w → (r : Option (List ℕ)) → Least cs start (take w at) w r → Finds k at start r
     moved cs w e f r l = subst (λ n. Least (Cands k) start (take n at) n r) (sym f) (subst (λ ts. Least ts start (take w at) w r) (sym e) l)
 
-    pub leaf_finds : (relation arity : ℕ) (fields : List Field) → get_or plan.nodes k blank ≡ Leaf relation arity fields → (r : Option (List ℕ)) →
+    pub leaf_finds : (relation arity : ℕ) (fields : List Field) → get_or (nodes_of plan) k blank ≡ Leaf relation arity fields → (r : Option (List ℕ)) →
         Least (leaf_lines relation (fields_of arity fields) rows) start (take (Wide k) at) (Wide k) r → Finds k at start r
     leaf_finds relation arity fields e r l = moved (leaf_lines relation (fields_of arity fields) rows) (Wide k) (are (Leaf relation arity fields) e) refl r l
 
-    module _ (m : ℕ) (left : Side) (sign : Sign) (right : Side) (e : get_or plan.nodes k blank ≡ Choice m left sign right) (from : Option (List ℕ)) (found : Finds m at start from) where
+    module _ (m : ℕ) (left : Side) (sign : Sign) (right : Side) (e : get_or (nodes_of plan) k blank ≡ Choice m left sign right) (from : Option (List ℕ)) (found : Finds m at start from) where
       abbrev Test : List ℕ → Bool
       Test = chosen left sign right
 
@@ -63,7 +63,7 @@ module _ (plan : Plan) (rows : List Row) where
       choice_ends g = moved _ (Wide m) (are (Choice m left sign right) e) (choice_in plan k h m left sign right e).1 None
           (going_none (Cands m) Test start (take (Wide m) at) (Wide m) (goes_end (Cands m) Test start (take (Wide m) at) (Wide m) from found None g))
 
-    pub union_finds : (l r : ℕ) → get_or plan.nodes k blank ≡ Pair Union l r → (a b : Option (List ℕ)) → Finds l at start a → Finds r at start b → Finds k at start (lesser (Wide k) a b)
+    pub union_finds : (l r : ℕ) → get_or (nodes_of plan) k blank ≡ Pair Union l r → (a b : Option (List ℕ)) → Finds l at start a → Finds r at start b → Finds k at start (lesser (Wide k) a b)
     union_finds l r e a b f g =
         let (i, j, same, like) = pair_in plan k h Union l r e in
         let w : Wide r ≡ Wide l = sym (eqb-true (Wide l) (Wide r) like) in
@@ -71,10 +71,10 @@ module _ (plan : Plan) (rows : List Row) where
         (subst (λ n. Least (Cands l ++ Cands r) start (take (Wide l) at) (Wide l) (lesser n a b)) (sym same)
         (least_append start (take (Wide l) at) (Wide l) (Cands l) (Cands r) a b f (subst (λ n. Least (Cands r) start (take n at) n b) w g)))
 
-    pub difference_finds : (l r : ℕ) → get_or plan.nodes k blank ≡ Pair Difference l r → (a : Option (List ℕ)) → Finds l at start a → Finds k at start a
+    pub difference_finds : (l r : ℕ) → get_or (nodes_of plan) k blank ≡ Pair Difference l r → (a : Option (List ℕ)) → Finds l at start a → Finds k at start a
     difference_finds l r e a f = moved (Cands l) (Wide l) (are (Pair Difference l r) e) (pair_in plan k h Difference l r e).2 a f
 
-    module _ (l r : ℕ) (e : get_or plan.nodes k blank ≡ Pair Product l r) (eight : length at ≡ 8) where
+    module _ (l r : ℕ) (e : get_or (nodes_of plan) k blank ≡ Pair Product l r) (eight : length at ≡ 8) where
       abbrev Both : List (List ℕ)
       Both = lines_by Product (Cands l) (Cands r)
 

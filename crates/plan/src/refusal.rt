@@ -17,12 +17,12 @@ pub enum Refusal {
     Widths(usize),
 }
 
-impl Refusal {
-    // The number, layer and position that a person is told.
-    pub fn notice(self) -> Notice
-        ensures { result ≡ notice_of self }
-    {
-        match self {
+// The number, layer and position that a person is told.
+impl From<Refusal> for Notice {
+    ghost from_gives = { λ refusal notice. notice ≡ notice_of refusal };
+
+    fn from(refusal: Refusal) -> Notice {
+        match refusal {
             Refusal::Size => Notice::new(31, 0),
             Refusal::Order(position) => Notice::new(32, position),
             Refusal::Leaves(position) => Notice::new(33, position),
