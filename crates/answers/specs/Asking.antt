@@ -1,7 +1,8 @@
 -- The questions that come before any answer: does the plan fit the source, and the line the plan?
-use Rattle.std.specs.Prelude.{◌≡◌, ℕ, Bool, cond, not, ◌&&◌, List, [], ◌∷◌, length, Some, None, Ok, Err, Option, Result, ◌==◌, nat_le, slice_index}
+use Rattle.std.specs.Prelude.{◌≡◌, ℕ, cond, List, [], ◌∷◌, length, Some, None, Ok, Err, Option, Result, ◌==◌}
 use Rattle.plan.specs.Filling.{first}
 use Rattle.plan.specs.Gathering.{leaves_of}
+use Rattle.plan.specs.Truths.{over}
 use Rattle.plan.specs.declared.leaf.PlanLeaf.{PlanLeaf}
 use Rattle.plan.specs.declared.node.Node.{Node}
 use Rattle.answers.specs.declared.refusal.Refusal.{Refusal}
@@ -15,10 +16,6 @@ leaves_fail arity (leaf ∷ leaves) = cond (leaf.arity == arity leaf.relation) (
 -- the same of a plan, whose leaves are gone through in the order of its nodes
 abbrev pub leaves_no : (ℕ → ℕ) → List Node → Option Refusal
 leaves_no arity nodes = leaves_fail arity (leaves_of nodes)
-
--- the column is past the width, and not zero
-abbrev pub over : ℕ → List ℕ → ℕ → Bool
-over width columns k = nat_le width k && not (slice_index columns k == 0)
 
 -- are the columns from the width on zero? No: the first that is not
 abbrev pub line_no : ℕ → List ℕ → Option Refusal

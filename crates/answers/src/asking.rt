@@ -11,24 +11,19 @@ use store::Source;
 pub fn check_leaves<S: Source>(source: &S, plan: &Plan) -> Result<(), Refusal>
     ensures { Unless (leaves_no (S.Source.model source.now).arity (nodes_of plan.now)) result }
 {
-    for number in 0..plan.leaves() {
-        if let Some(leaf) = plan.leaf(number) {
-            if leaf.arity != source.arity(leaf.relation) {
-                return Err(Refusal::Arity(leaf.node));
-            }
-        }
+    let mut leaves = plan.leaf_list().iter();
+    match leaves.find(|leaf| leaf.arity != source.arity(leaf.relation)) {
+        Some(leaf) => Err(Refusal::Arity(leaf.node)),
+        None => Ok(()),
     }
-    Ok(())
 }
 
 // Whether the line is zero from the plan's width on; if not, the first column that is not.
 pub fn check_line(plan: &Plan, line: &Line) -> Result<(), Refusal>
     ensures { Unless (line_no (plan_width (nodes_of plan.now)) line.now.columns) result }
 {
-    for column in plan.width()..8 {
-        if line.columns[column] != 0 {
-            return Err(Refusal::Column(column));
-        }
+    match plan.past(line) {
+        Some(column) => Err(Refusal::Column(column)),
+        None => Ok(()),
     }
-    Ok(())
 }

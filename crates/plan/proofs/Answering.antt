@@ -24,8 +24,8 @@ use Rattle.plan.proofs.Grown.{Local, value_at, pair_early}
 use Rattle.plan.proofs.Having.{Long, has_kept, has_by, long_leaf, has_leaf, has_padded}
 use Rattle.plan.proofs.Members.{kept_pick, pairs_pick}
 use Rattle.plan.proofs.Numbering.{leaf_of}
-use Rattle.plan.proofs.PlanLeaves.{leaves_long, leaf_number, named_long}
-use Rattle.plan.proofs.PlanNodes.{nodes_long, node_in, part_long, leaf_in, choice_in, pair_in, passes_at}
+use Rattle.plan.proofs.PlanLeaves.{leaf_number, named_long}
+use Rattle.plan.proofs.PlanNodes.{part_long, leaf_in, choice_in, pair_in, passes_at}
 
 lines_local : (rows : List Row) → Local [] (lines_of rows)
 lines_local rows xs ys k same (Leaf relation arity fields) f = refl
@@ -48,23 +48,23 @@ module _ (plan : Plan) (rows : List Row) where
   abbrev Wide : ℕ → ℕ
   Wide k = get_or plan.widths k 0
 
-  pub lines_at_lem : (k : ℕ) → k < plan.count → Lines k ≡ lines_of rows (grown (lines_of rows) [] (nodes_of plan)) (get_or plan.nodes k blank)
+  pub lines_at_lem : (k : ℕ) → k < length (nodes_of plan) → Lines k ≡ lines_of rows (grown (lines_of rows) [] (nodes_of plan)) (get_or (nodes_of plan) k blank)
   lines_at_lem k h =
-      value_at [] (lines_of rows) (lines_local rows) (nodes_of plan) plan.early k (omega (arith, nodes_long plan)) ∙ ap (lines_of rows (grown (lines_of rows) [] (nodes_of plan))) (node_in plan k h)
+      value_at [] (lines_of rows) (lines_local rows) (nodes_of plan) plan.early k h
 
   -- each line of a node is as long as the node is wide
-  long_node : (k : ℕ) → k < plan.count → ((j : ℕ) → j < k → Long (Wide j) (Lines j)) → (n : Node) → get_or plan.nodes k blank ≡ n → Long (Wide k) (lines_of rows (grown (lines_of rows) [] (nodes_of plan)) n)
+  long_node : (k : ℕ) → k < length (nodes_of plan) → ((j : ℕ) → j < k → Long (Wide j) (Lines j)) → (n : Node) → get_or (nodes_of plan) k blank ≡ n → Long (Wide k) (lines_of rows (grown (lines_of rows) [] (nodes_of plan)) n)
   long_node k h ih (Leaf relation arity fields) e t m = long_leaf relation (fields_of arity fields) rows t m ∙ sym (leaf_in plan k h relation arity fields e)
   long_node k h ih (Choice node left sign right) e t m = let (l, same, _) = choice_in plan k h node left sign right e in ih node l t (kept_pick _ (Lines node) m).0 ∙ sym same
   long_node k h ih (Pair op left right) e t m =
       let (i, j, sum, like) = pair_in plan k h op left right e in
       long_by op (Lines left) (Lines right) (Wide left) (Wide right) (ih left i) (ih right j) like t m ∙ sym sum
 
-  long_below : (m k : ℕ) → k < m → k < plan.count → Long (Wide k) (Lines k)
+  long_below : (m k : ℕ) → k < m → k < length (nodes_of plan) → Long (Wide k) (Lines k)
   long_below zero k l h = absurd (omega arith)
-  long_below (suc m) k l h = subst (Long (Wide k)) (sym (lines_at_lem k h)) (long_node k h (λ j i. long_below m j (omega arith) (omega arith)) (get_or plan.nodes k blank) refl)
+  long_below (suc m) k l h = subst (Long (Wide k)) (sym (lines_at_lem k h)) (long_node k h (λ j i. long_below m j (omega arith) (omega arith)) (get_or (nodes_of plan) k blank) refl)
 
-  pub long_lines : (k : ℕ) → k < plan.count → Long (Wide k) (Lines k)
+  pub long_lines : (k : ℕ) → k < length (nodes_of plan) → Long (Wide k) (Lines k)
   long_lines k h = long_below (suc k) k (omega arith) h
 
   module _ (columns : List ℕ) (eight : length columns ≡ 8) (truth : List Bool) (tells : Tells plan columns rows truth) where
@@ -79,20 +79,19 @@ module _ (plan : Plan) (rows : List Row) where
     Claim k = has (Lines k) (Part k) ≡ get_or Truths k false
 
     -- the truth that is told of the row that the line names at a leaf
-    told : (k : ℕ) → k < plan.count → (relation arity : ℕ) (fields : List _) → get_or plan.nodes k blank ≡ Leaf relation arity fields →
+    told : (k : ℕ) → k < length (nodes_of plan) → (relation arity : ℕ) (fields : List _) → get_or (nodes_of plan) k blank ≡ Leaf relation arity fields →
         among rows (named relation (fields_of arity fields) (Part k)) ≡ get_or truth (leaves_before (nodes_of plan) k) false
     told k h relation arity fields e =
         let i : ℕ = leaves_before (nodes_of plan) k in
         let leaves : List PlanLeaf = leaves_of (nodes_of plan) in
         let row_of : PlanLeaf → Row = λ leaf. named leaf.relation leaf.fields (Part leaf.node) in
         let (few, is) = leaf_number plan k h relation arity fields e in
-        let l : i < length leaves = omega (arith, leaves_long plan) in
         let n : i < length (named_rows plan columns) = omega (arith, named_long plan columns) in
         let d : PlanLeaf = leaf_of 0 blank in
-        ap (λ leaf. among rows (row_of leaf)) (sym (is d)) ∙ ap (among rows) (sym (get_or-map row_of leaves i d (row_of d) l)) ∙ sym (get_or-map (among rows) (named_rows plan columns) i (row_of d) false n) ∙
+        ap (λ leaf. among rows (row_of leaf)) (sym (is d)) ∙ ap (among rows) (sym (get_or-map row_of leaves i d (row_of d) few)) ∙ sym (get_or-map (among rows) (named_rows plan columns) i (row_of d) false n) ∙
         ap (λ bs. get_or bs i false) (sym tells) ∙ get_or-take (length (named_rows plan columns)) truth i false n
 
-    claim_node : (k : ℕ) → k < plan.count → ((j : ℕ) → j < k → Claim j) → (n : Node) → get_or plan.nodes k blank ≡ n →
+    claim_node : (k : ℕ) → k < length (nodes_of plan) → ((j : ℕ) → j < k → Claim j) → (n : Node) → get_or (nodes_of plan) k blank ≡ n →
         has (lines_of rows (grown (lines_of rows) [] (nodes_of plan)) n) (Part k) ≡ truth_of (get_or truth (leaves_before (nodes_of plan) k) false) (Part k) Truths n
     claim_node k h ih (Leaf relation arity fields) e =
         has_leaf relation (fields_of arity fields) rows (Part k) (part_long plan k h columns eight ∙ leaf_in plan k h relation arity fields e) ∙ told k h relation arity fields e
@@ -109,18 +108,18 @@ module _ (plan : Plan) (rows : List Row) where
         has_by op (Lines left) (Lines right) (Wide left) (Wide right) o columns (long_lines left (omega arith)) like ∙
         ap₂ (combined op) (ap (λ p. has (Lines left) (take (Wide left) (drop p columns))) (sym a) ∙ ih left i) (ap (λ p. has (Lines right) (take (Wide right) (drop p columns))) (sym b) ∙ ih right j)
 
-    claims : (m k : ℕ) → k < m → k < plan.count → Claim k
+    claims : (m k : ℕ) → k < m → k < length (nodes_of plan) → Claim k
     claims zero k l h = absurd (omega arith)
     claims (suc m) k l h =
-        ap (λ ls. has ls (Part k)) (lines_at_lem k h) ∙ claim_node k h (λ j i. claims m j (omega arith) (omega arith)) (get_or plan.nodes k blank) refl ∙ truth_at_lem plan columns truth k h
+        ap (λ ls. has ls (Part k)) (lines_at_lem k h) ∙ claim_node k h (λ j i. claims m j (omega arith) (omega arith)) (get_or (nodes_of plan) k blank) refl ∙ truth_at_lem plan columns truth k h
 
-    pub claim : (k : ℕ) → k < plan.count → Claim k
+    pub claim : (k : ℕ) → k < length (nodes_of plan) → Claim k
     claim k h = claims (suc k) k (omega arith) h
 
 pub by_names : ByNames
 by_names plan columns rows truth tells =
     let last : ℕ = length (nodes_of plan) - 1 in
-    let h : last < plan.count = omega (arith, nodes_long plan, plan.some) in
+    let h : last < length (nodes_of plan) = omega (arith, plan.some) in
     let (_, wide, small) = plan.wide last h in
     let w : ℕ = get_or plan.widths last 0 in
     let answer = has (lines_at rows (nodes_of plan) last) in

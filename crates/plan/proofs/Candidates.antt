@@ -20,7 +20,7 @@ use Rattle.plan.proofs.Answering.{long_by, lines_at_lem}
 use Rattle.plan.proofs.Grown.{Local, value_at, pair_early}
 use Rattle.plan.proofs.Having.{Long, long_leaf, leaf_pick, leaf_put}
 use Rattle.plan.proofs.Members.{kept_put, kept_pick, pairs_put, pairs_pick, line_in, line_has}
-use Rattle.plan.proofs.PlanNodes.{nodes_long, node_in, leaf_in, choice_in, pair_in}
+use Rattle.plan.proofs.PlanNodes.{leaf_in, choice_in, pair_in}
 
 candidates_local : (rows : List Row) → Local [] (candidates_of rows)
 candidates_local rows xs ys k same (Leaf relation arity fields) f = refl
@@ -39,23 +39,23 @@ module _ (plan : Plan) (rows : List Row) where
   abbrev Wide : ℕ → ℕ
   Wide k = get_or plan.widths k 0
 
-  pub candidates_at_lem : (k : ℕ) → k < plan.count → Cands k ≡ candidates_of rows (grown (candidates_of rows) [] (nodes_of plan)) (get_or plan.nodes k blank)
+  pub candidates_at_lem : (k : ℕ) → k < length (nodes_of plan) → Cands k ≡ candidates_of rows (grown (candidates_of rows) [] (nodes_of plan)) (get_or (nodes_of plan) k blank)
   candidates_at_lem k h =
-      value_at [] (candidates_of rows) (candidates_local rows) (nodes_of plan) plan.early k (omega (arith, nodes_long plan)) ∙ ap (candidates_of rows (grown (candidates_of rows) [] (nodes_of plan))) (node_in plan k h)
+      value_at [] (candidates_of rows) (candidates_local rows) (nodes_of plan) plan.early k h
 
   -- each candidate of a node is as long as the node is wide
-  long_node : (k : ℕ) → k < plan.count → ((j : ℕ) → j < k → Long (Wide j) (Cands j)) → (n : Node) → get_or plan.nodes k blank ≡ n → Long (Wide k) (candidates_of rows (grown (candidates_of rows) [] (nodes_of plan)) n)
+  long_node : (k : ℕ) → k < length (nodes_of plan) → ((j : ℕ) → j < k → Long (Wide j) (Cands j)) → (n : Node) → get_or (nodes_of plan) k blank ≡ n → Long (Wide k) (candidates_of rows (grown (candidates_of rows) [] (nodes_of plan)) n)
   long_node k h ih (Leaf relation arity fields) e t m = long_leaf relation (fields_of arity fields) rows t m ∙ sym (leaf_in plan k h relation arity fields e)
   long_node k h ih (Choice node left sign right) e t m = let (l, same, _) = choice_in plan k h node left sign right e in ih node l t (kept_pick _ (Cands node) m).0 ∙ sym same
   long_node k h ih (Pair op left right) e t m =
       let (i, j, sum, like) = pair_in plan k h op left right e in
       long_candidates_by op (Cands left) (Cands right) (Wide left) (Wide right) (ih left i) (ih right j) like t m ∙ sym sum
 
-  long_below : (m k : ℕ) → k < m → k < plan.count → Long (Wide k) (Cands k)
+  long_below : (m k : ℕ) → k < m → k < length (nodes_of plan) → Long (Wide k) (Cands k)
   long_below zero k l h = absurd (omega arith)
-  long_below (suc m) k l h = subst (Long (Wide k)) (sym (candidates_at_lem k h)) (long_node k h (λ j i. long_below m j (omega arith) (omega arith)) (get_or plan.nodes k blank) refl)
+  long_below (suc m) k l h = subst (Long (Wide k)) (sym (candidates_at_lem k h)) (long_node k h (λ j i. long_below m j (omega arith) (omega arith)) (get_or (nodes_of plan) k blank) refl)
 
-  pub long_candidates : (k : ℕ) → k < plan.count → Long (Wide k) (Cands k)
+  pub long_candidates : (k : ℕ) → k < length (nodes_of plan) → Long (Wide k) (Cands k)
   long_candidates k h = long_below (suc k) k (omega arith) h
 
 -- every line is among the candidates
@@ -71,7 +71,7 @@ module _ (plan : Plan) (R : Row → Bool) (rows : List Row) where
   abbrev Lines : ℕ → List (List ℕ)
   Lines k = lines_at (filter R rows) (nodes_of plan) k
 
-  part_node : (k : ℕ) → k < plan.count → ((j : ℕ) → j < k → Part (Lines j) (Cands plan rows j)) → (n : Node) → get_or plan.nodes k blank ≡ n →
+  part_node : (k : ℕ) → k < length (nodes_of plan) → ((j : ℕ) → j < k → Part (Lines j) (Cands plan rows j)) → (n : Node) → get_or (nodes_of plan) k blank ≡ n →
       Part (lines_of (filter R rows) (grown (lines_of (filter R rows)) [] (nodes_of plan)) n) (candidates_of rows (grown (candidates_of rows) [] (nodes_of plan)) n)
   part_node k h ih (Leaf relation arity fields) e t m =
       let (r, i, good, o) = leaf_pick relation (fields_of arity fields) (filter R rows) t m in
@@ -83,14 +83,14 @@ module _ (plan : Plan) (R : Row → Bool) (rows : List Row) where
       let (i, j, _, _) = pair_in plan k h op left right e in
       part_by op (Lines left) (Lines right) (Cands plan rows left) (Cands plan rows right) (ih left i) (ih right j) t m
 
-  part_below : (m k : ℕ) → k < m → k < plan.count → Part (Lines k) (Cands plan rows k)
+  part_below : (m k : ℕ) → k < m → k < length (nodes_of plan) → Part (Lines k) (Cands plan rows k)
   part_below zero k l h = absurd (omega arith)
   part_below (suc m) k l h =
-      subst (λ cs. Part (Lines k) cs) (sym (candidates_at_lem plan rows k h)) (subst (λ ts. Part ts (candidates_of rows (grown (candidates_of rows) [] (nodes_of plan)) (get_or plan.nodes k blank))) (sym (lines_at_lem plan (filter R rows) k h))
-      (part_node k h (λ j i. part_below m j (omega arith) (omega arith)) (get_or plan.nodes k blank) refl))
+      subst (λ cs. Part (Lines k) cs) (sym (candidates_at_lem plan rows k h)) (subst (λ ts. Part ts (candidates_of rows (grown (candidates_of rows) [] (nodes_of plan)) (get_or (nodes_of plan) k blank))) (sym (lines_at_lem plan (filter R rows) k h))
+      (part_node k h (λ j i. part_below m j (omega arith) (omega arith)) (get_or (nodes_of plan) k blank) refl))
 
 pub all_candidates : AllCandidates
 all_candidates plan R rows columns h =
     let last : ℕ = length (nodes_of plan) - 1 in
     let (t, i, e) = Memᴰ.of_map padded (lines_at (filter R rows) (nodes_of plan) last) (line_in columns (map padded (lines_at (filter R rows) (nodes_of plan) last)) h) in
-    line_has (subst (λ c. Memᴰ c (map padded (candidates_at rows (nodes_of plan) last))) e (Memᴰ.map padded (part_below plan R rows (suc last) last (omega arith) (omega (arith, nodes_long plan, plan.some)) t i)))
+    line_has (subst (λ c. Memᴰ c (map padded (candidates_at rows (nodes_of plan) last))) e (Memᴰ.map padded (part_below plan R rows (suc last) last (omega arith) (omega (arith, plan.some)) t i)))

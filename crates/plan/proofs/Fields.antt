@@ -1,11 +1,13 @@
 -- A leaf's fields one by one.
-use Rattle.std.proofs.Common.{◌≡◌, ℕ, zero, suc, ◌+◌, ◌-◌, ◌<◌, ◌≤◌, List, ◌∷◌, ◌++◌, length, get_or, take, drop, replicate, refl, ap, ◌∙◌, ap₂, inl, inr, append-nil, arith, length-append, length-take, length-take-le, get_or-take, take-take}
+use Rattle.std.proofs.Common.{◌≡◌, ℕ, zero, suc, ◌+◌, ◌-◌, ◌<◌, ◌≤◌, Bool, true, false, cond, List, [], ◌∷◌, ◌++◌, length, get_or, take, drop, replicate, refl, ap, ◌∙◌, ap₂, inl, inr, append-nil, arith, length-append, length-take, length-take-le, get_or-take, take-take}
+use Rattle.std.specs.Prelude.{count_by}
 use lib.ListN.{length-replicate}
 use Rattle.std.proofs.lemmas.List.{drop_more, take_at, get_or_append_left, get_or-append_right}
+use Rattle.std.proofs.lemmas.List.Sums.{sum_by-cons}
 use Rattle.std.proofs.lemmas.Bool.{cases_lt}
 use Rattle.plan.specs.Leaves.{fields_of, opens, matches, opened, filled}
 use Rattle.plan.specs.declared.node.Field.{Field}
-use Rattle.plan.specs.declared.node.Field.TheVariants.{Fixed}
+use Rattle.plan.specs.declared.node.Field.TheVariants.{Open, Fixed}
 
 pub fields_long : (arity : ℕ) (fs : List Field) → length fs ≡ 4 → length (fields_of arity fs) ≡ 4
 fields_long arity fs h = simp (length-append, length-take, length-replicate) (omega arith)
@@ -29,6 +31,16 @@ fields_front arity fs h = elim (cases_lt arity 4) [
       let none : 4 - arity ≡ 0 = omega arith in
       ap (λ n. take arity (take arity fs ++ replicate n (Fixed 0))) none ∙ ap (take arity) (append-nil (take arity fs)) ∙ take-take arity arity fs (omega arith)
 ]
+
+-- the field is open
+abbrev pub is_open : Field → Bool
+is_open Open = true
+is_open (Fixed n) = false
+
+pub opens_count : (fs : List Field) → count_by is_open fs ≡ opens fs
+opens_count [] = refl
+opens_count (Open ∷ fs) = omega (arith, sum_by-cons (λ f. cond (is_open f) 1 0) Open fs, opens_count fs)
+opens_count (Fixed n ∷ fs) = omega (arith, sum_by-cons (λ f. cond (is_open f) 1 0) (Fixed n) fs, opens_count fs)
 
 -- one field of those that are left
 module _ (fs : List Field) (i : ℕ) (d f : Field) (l : i < length fs) (e : get_or fs i d ≡ f) where

@@ -1,7 +1,16 @@
 -- The first number below n that passes a test.
-use Rattle.std.proofs.Common.{◌≡◌, ℕ, zero, suc, ◌<◌, ◌≤◌, Bool, true, false, ◌⊎◌, refl, ap, ◌∙◌, inl, inr, arith}
-use Rattle.std.proofs.lemmas.Bool.{cases_Bool}
-use Rattle.plan.specs.Filling.{first}
+use Rattle.std.proofs.Common.{◌≡◌, ℕ, zero, suc, ◌<◌, ◌≤◌, Bool, true, false, ◌⊎◌, List, Some, None, Option, MatchOption, sym, refl, ap, ◌∙◌, inl, inr, arith}
+use Rattle.std.specs.Bool.{⊤}
+use Rattle.std.specs.declared.ops.Range.{Range}
+use Rattle.std.specs.Fn.{CalledAt}
+use Rattle.std.specs.Iterator.{YieldsThen}
+use Rattle.std.specs.List.{FoldsTo}
+use Rattle.std.proofs.iter.Yields.{nat_range_steps}
+use Rattle.std.proofs.lemmas.Bool.{cases_Bool, cases_lt}
+use Rattle.std.proofs.lemmas.Iterator.{first_from_Range}
+use denote.Param.Members.{Mut}
+use denote.Ref.{Bor}
+use Rattle.plan.specs.Filling.{first, Spots}
 
 -- one that passes, and none before it does
 pub first_is_lem : (test : ℕ → Bool) (n k : ℕ) → k < n → test k ≡ true → ((j : ℕ) → j < k → test j ≡ false) → first test n ≡ k
@@ -35,9 +44,21 @@ at_first test (suc n) = elim (cases_Bool (test 0)) [
       elim (at_first (λ i. test (suc i)) n) [ inl e ↦ inl (f ∙ ap suc e) | inr h ↦ inr (omega (arith, h.0), ap test f ∙ h.1) ]
 ]
 
--- what a loop that looks for the first tells, where it stops and at its end
+-- what a loop that looks for the first tells, where it stops
 pub spots_at : (test : ℕ → Bool) (n k : ℕ) → k < n → test k ≡ true → ((j : ℕ) → j < k → test j ≡ false) → (first test n ≡ k) × (k < n)
 spots_at test n k l h none = (first_is_lem test n k l h none, l)
 
-pub spots_none : (test : ℕ → Bool) (n k : ℕ) → n ≤ k → ((j : ℕ) → j < k → test j ≡ false) → first test n ≡ n
-spots_none test n k l none = first_none test n (λ j i. none j (omega arith))
+-- what a search through a range tells, if its closure is the test from the range's start on, and nothing passes before that
+module _ (test seen : ℕ → Bool) (s u : Range ℕ) (r : Option ℕ) where
+  pub spots_from_find : {F : Type 0} {g : Mut F (Bor ℕ × Unit {0}) Bool} {f : F}
+      → (xs : List ℕ) × (j : F) × YieldsThen nat_range_steps s xs r u × FoldsTo (λ p x q. CalledAt g p x false q) f xs j × MatchOption r ⊤ (λ x. (h : F) × CalledAt g j x true h)
+      → ((x : ℕ) (b : Bool) (q : F) → CalledAt g f x b q → (q ≡ f) × (b ≡ seen x))
+      → ((k : ℕ) → s.start ≤ k → seen k ≡ test k) → ((k : ℕ) → k < s.start → test k ≡ false) → Spots test s.end r
+  spots_from_find {f = f} ran is same early = spots r (first_from_Range s u f r (λ x. seen x ≡ true) (λ x. seen x ≡ false) ran (λ x q k. sym (is x true q k).1) (λ x q k. ((is x false q k).0, sym (is x false q k).1)))
+    where
+      none_before : (i : ℕ) → ((k : ℕ) → s.start ≤ k → k < i → seen k ≡ false) → (k : ℕ) → k < i → test k ≡ false
+      none_before i none k h = elim (cases_lt k s.start) [ inl l ↦ early k l | inr l ↦ sym (same k l) ∙ none k l h ]
+
+      spots : (o : Option ℕ) → MatchOption o ((k : ℕ) → s.start ≤ k → k < s.end → seen k ≡ false) (λ i. (s.start ≤ i) × (i < s.end) × (seen i ≡ true) × ((k : ℕ) → s.start ≤ k → k < i → seen k ≡ false)) → Spots test s.end o
+      spots None none = first_none test s.end (none_before s.end none)
+      spots (Some i) (from, to, passes, none) = spots_at test s.end i to (sym (same i from) ∙ passes) (none_before i none)

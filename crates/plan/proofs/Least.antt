@@ -2,6 +2,7 @@
 use Rattle.std.proofs.Common.{◌≡◌, ℕ, ◌+◌, ◌<◌, Bool, true, false, cond, ◌&&◌, eqb, List, [], ◌∷◌, ◌++◌, map, length, get_or, take, Some, None, filter, Option, sym, refl, ap, ◌∙◌, subst, inl, inr, append-nil}
 use mathlib.Core.List.Memᴰ
 use mathlib.Core.List.{Memᴰ}
+use Rattle.std.specs.Bool.{then_some}
 use Rattle.std.proofs.lemmas.List.{take_more}
 use Rattle.std.proofs.lemmas.Bool.{both_ways}
 use Rattle.store.specs.declared.row.Row.{Row}
@@ -10,14 +11,14 @@ use Rattle.plan.specs.Leaves.{matches, opened, leaf_lines}
 use Rattle.plan.specs.Seeking.{reaches, Padded, Least, lesser}
 use Rattle.plan.specs.Streams.{rows_at, before}
 use Rattle.plan.specs.declared.node.Field.{Field}
-use Rattle.plan.specs.declared.seek.Start.{Start}
+use Rattle.std.specs.declared.ops.Bound.{Bound}
 use Rattle.plan.proofs.Before.{irreflexive, transitive, compared}
 
-module _ (start : Start) (at : List ℕ) (w : ℕ) where
-  pub least_none : Least [] start at w None
+module _ (start : Bound (List ℕ)) (w : ℕ) where
+  pub least_none : Least [] start w None
   least_none t m = elim m [ ]
 
-  both_some : (ps qs : List (List ℕ)) (x y : List ℕ) → Least ps start at w (Some x) → Least qs start at w (Some y) → (b : Bool) → before (take w y) (take w x) ≡ b → Least (ps ++ qs) start at w (cond b (Some y) (Some x))
+  both_some : (ps qs : List (List ℕ)) (x y : List ℕ) → Least ps start w (Some x) → Least qs start w (Some y) → (b : Bool) → before (take w y) (take w x) ≡ b → Least (ps ++ qs) start w (cond b (Some y) (Some x))
   both_some ps qs x y (i, r, f, l, z) (j, s, g, m, v) true e = (
     Memᴰ.append_right ps j,
     s,
@@ -45,12 +46,12 @@ module _ (start : Start) (at : List ℕ) (w : ℕ) where
     z,
   )
 
-  pub least_append : (ps qs : List (List ℕ)) (a b : Option (List ℕ)) → Least ps start at w a → Least qs start at w b → Least (ps ++ qs) start at w (lesser w a b)
+  pub least_append : (ps qs : List (List ℕ)) (a b : Option (List ℕ)) → Least ps start w a → Least qs start w b → Least (ps ++ qs) start w (lesser w a b)
   least_append ps qs None None f g = λ t n. elim (Memᴰ.append_cases ps n) [ inl a ↦ f t a | inr a ↦ g t a ]
   least_append ps qs None (Some y) f (j, s, g, m, v) =
-      (Memᴰ.append_right ps j, s, (λ t n q. elim (Memᴰ.append_cases ps n) [ inl a ↦ absurd (both_ways (reaches start at t) (f t a) q) | inr a ↦ g t a q ]), m, v)
+      (Memᴰ.append_right ps j, s, (λ t n q. elim (Memᴰ.append_cases ps n) [ inl a ↦ absurd (both_ways (reaches start t) (f t a) q) | inr a ↦ g t a q ]), m, v)
   least_append ps qs (Some x) None (i, r, f, l, z) g =
-      (Memᴰ.append_left qs i, r, (λ t n q. elim (Memᴰ.append_cases ps n) [ inl a ↦ f t a q | inr a ↦ absurd (both_ways (reaches start at t) (g t a) q) ]), l, z)
+      (Memᴰ.append_left qs i, r, (λ t n q. elim (Memᴰ.append_cases ps n) [ inl a ↦ f t a q | inr a ↦ absurd (both_ways (reaches start t) (g t a) q) ]), l, z)
   least_append ps qs (Some x) (Some y) f g = both_some ps qs x y f g (before (take w y) (take w x)) refl
 
   -- ---- one row at a leaf
@@ -58,16 +59,20 @@ module _ (start : Start) (at : List ℕ) (w : ℕ) where
     abbrev Test : Bool
     Test = eqb relation row.relation && matches fields row.columns
 
-    pub row_no : Test ≡ false → Least (leaf_lines relation fields (row ∷ [])) start at w None
-    row_no e = subst (λ b. Least (map (λ r. opened fields r.columns) (cond b (row ∷ []) [])) start at w None) (sym e) least_none
+    pub row_no : Test ≡ false → Least (leaf_lines relation fields (row ∷ [])) start w None
+    row_no e = subst (λ b. Least (map (λ r. opened fields r.columns) (cond b (row ∷ []) [])) start w None) (sym e) least_none
 
-    pub row_far : Test ≡ true → (a : List ℕ) → take w a ≡ opened fields row.columns → reaches start at (take w a) ≡ false → Least (leaf_lines relation fields (row ∷ [])) start at w None
-    row_far e a is far = subst (λ b. Least (map (λ r. opened fields r.columns) (cond b (row ∷ []) [])) start at w None) (sym e)
-        (λ t m. elim m [ Memᴰ.head p ↦ subst (λ u. reaches start at u ≡ false) (is ∙ sym p) far | Memᴰ.tail n ↦ elim n [ ] ])
+    row_far : Test ≡ true → (a : List ℕ) → take w a ≡ opened fields row.columns → reaches start (take w a) ≡ false → Least (leaf_lines relation fields (row ∷ [])) start w None
+    row_far e a is far = subst (λ b. Least (map (λ r. opened fields r.columns) (cond b (row ∷ []) [])) start w None) (sym e)
+        (λ t m. elim m [ Memᴰ.head p ↦ subst (λ u. reaches start u ≡ false) (is ∙ sym p) far | Memᴰ.tail n ↦ elim n [ ] ])
 
-    pub row_yes : Test ≡ true → (a : List ℕ) → take w a ≡ opened fields row.columns → reaches start at (take w a) ≡ true → length a ≡ 8 → Padded w a → Least (leaf_lines relation fields (row ∷ [])) start at w (Some a)
-    row_yes e a is near l z = subst (λ b. Least (map (λ r. opened fields r.columns) (cond b (row ∷ []) [])) start at w (Some a)) (sym e)
+    row_yes : Test ≡ true → (a : List ℕ) → take w a ≡ opened fields row.columns → reaches start (take w a) ≡ true → length a ≡ 8 → Padded w a → Least (leaf_lines relation fields (row ∷ [])) start w (Some a)
+    row_yes e a is near l z = subst (λ b. Least (map (λ r. opened fields r.columns) (cond b (row ∷ []) [])) start w (Some a)) (sym e)
         (Memᴰ.head is, near, (λ t m q. elim m [ Memᴰ.head p ↦ subst (λ u. before u (take w a) ≡ false) (is ∙ sym p) (irreflexive (take w a)) | Memᴰ.tail n ↦ elim n [ ] ]), l, z)
+
+    pub row_if : Test ≡ true → (a : List ℕ) → take w a ≡ opened fields row.columns → (b : Bool) → b ≡ reaches start (take w a) → length a ≡ 8 → Padded w a → Least (leaf_lines relation fields (row ∷ [])) start w (then_some b a)
+    row_if e a is true near l z = row_yes e a is (sym near) l z
+    row_if e a is false far l z = row_far e a is (sym far)
 
 -- a leaf's lines over more rows, and the rows at more places
 leaf_append : (relation : ℕ) (fields : List Field) (xs ys : List Row) → leaf_lines relation fields (xs ++ ys) ≡ leaf_lines relation fields xs ++ leaf_lines relation fields ys
@@ -92,10 +97,10 @@ module _ (places : List (Option Row)) (i : ℕ) (within : i < length places) whe
   pub place_empty : get_or places i None ≡ None → rows_at (take (i + 1) places) ≡ rows_at (take i places)
   place_empty e = more ∙ ap (λ o. rows_at (take i places) ++ rows_at (o ∷ [])) e ∙ append-nil (rows_at (take i places))
 
-  pub place_more : (start : Start) (at : List ℕ) (w relation : ℕ) (fields : List Field) (row : Row) → get_or places i None ≡ Some row → (a b : Option (List ℕ)) →
-      Least (leaf_lines relation fields (rows_at (take i places))) start at w a → Least (leaf_lines relation fields (row ∷ [])) start at w b →
-      Least (leaf_lines relation fields (rows_at (take (i + 1) places))) start at w (lesser w a b)
-  place_more start at w relation fields row e a b f g =
+  pub place_more : (start : Bound (List ℕ)) (w relation : ℕ) (fields : List Field) (row : Row) → get_or places i None ≡ Some row → (a b : Option (List ℕ)) →
+      Least (leaf_lines relation fields (rows_at (take i places))) start w a → Least (leaf_lines relation fields (row ∷ [])) start w b →
+      Least (leaf_lines relation fields (rows_at (take (i + 1) places))) start w (lesser w a b)
+  place_more start w relation fields row e a b f g =
       let rows = rows_at (take i places) in
-      subst (λ cs. Least cs start at w (lesser w a b)) (sym (ap (leaf_lines relation fields) (more ∙ ap (λ o. rows ++ rows_at (o ∷ [])) e) ∙ leaf_append relation fields rows (row ∷ [])))
-      (least_append start at w (leaf_lines relation fields rows) (leaf_lines relation fields (row ∷ [])) a b f g)
+      subst (λ cs. Least cs start w (lesser w a b)) (sym (ap (leaf_lines relation fields) (more ∙ ap (λ o. rows ++ rows_at (o ∷ [])) e) ∙ leaf_append relation fields rows (row ∷ [])))
+      (least_append start w (leaf_lines relation fields rows) (leaf_lines relation fields (row ∷ [])) a b f g)

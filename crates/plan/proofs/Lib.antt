@@ -1,5 +1,7 @@
 pub mod Firsts
 pub mod Fields
+pub mod Tried
+pub mod Past
 pub mod Standing
 pub mod Grown
 pub mod Measures

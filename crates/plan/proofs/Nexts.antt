@@ -8,7 +8,7 @@ use Rattle.store.proofs.Tests.{same_tests}
 use Rattle.plan.specs.Answers.{has, padded}
 use Rattle.plan.specs.Seeking.{reaches, Padded, Least}
 use Rattle.plan.specs.Streams.{before}
-use Rattle.plan.specs.declared.seek.Start.{Start}
+use Rattle.std.specs.declared.ops.Bound.{Bound}
 use Rattle.plan.proofs.Having.{Long}
 use Rattle.plan.proofs.Members.{line_in, line_has}
 use Rattle.plan.proofs.Before.{front_less, front_cases, none_before_zeros}
@@ -35,15 +35,15 @@ before_padded w a t small eight long =
 padded_long : (t : List ℕ) → length t ≤ 8 → length (padded t) ≡ 8
 padded_long t small = length-append t (replicate (8 - length t) 0) ∙ omega (arith, length-replicate {A = ℕ} (8 - length t) 0)
 
-module _ (cs : List (List ℕ)) (w : ℕ) (small : w ≤ 8) (long : Long w cs) (start : Start) (at : List ℕ) (after : List ℕ → Bool) (agree : (t : List ℕ) → length t ≡ w → after (padded t) ≡ reaches start at t) where
+module _ (cs : List (List ℕ)) (w : ℕ) (small : w ≤ 8) (long : Long w cs) (start : Bound (List ℕ)) (after : List ℕ → Bool) (agree : (t : List ℕ) → length t ≡ w → after (padded t) ≡ reaches start t) where
   -- what holds of each candidate line holds of the columns that are one
   of_each : (P : List ℕ → Type 0) → ((t : List ℕ) → Memᴰ t cs → P (padded t)) → (columns : List ℕ) → has (map padded cs) columns ≡ true → P columns
   of_each P f columns h = let (t, i, e) = Memᴰ.of_map padded cs (line_in columns (map padded cs) h) in subst P e (f t i)
 
-  pub found_none : Least cs start at w None → (columns : List ℕ) → has (map padded cs) columns ≡ true → after columns ≡ false
+  pub found_none : Least cs start w None → (columns : List ℕ) → has (map padded cs) columns ≡ true → after columns ≡ false
   found_none f = of_each (λ columns. after columns ≡ false) (λ t i. agree t (long t i) ∙ f t i)
 
-  pub found_some : (a : List ℕ) → Least cs start at w (Some a) →
+  pub found_some : (a : List ℕ) → Least cs start w (Some a) →
       (has (map padded cs) a ≡ true) × (after a ≡ true) × ((columns : List ℕ) → has (map padded cs) columns ≡ true → after columns ≡ true → before columns a ≡ false)
   found_some a (i, r, f, eight, zeros) =
       let is : padded (take w a) ≡ a = whole w a small eight zeros in

@@ -1,11 +1,9 @@
 -- The leaves by their numbers and by their places.
-use Rattle.std.proofs.Common.{◌≡◌, ℕ, zero, suc, ◌+◌, ◌<◌, ◌≤◌, List, [], ◌∷◌, map, length, get_or, take, Some, None, sym, refl, ap, ◌∙◌, zero-add, arith, length-take-le, get_or-take}
-use lib.ListN.{length-map}
+use Rattle.std.proofs.Common.{◌≡◌, ℕ, zero, suc, ◌+◌, ◌<◌, List, [], ◌∷◌, map, length, get_or, take, Some, None, refl, ap, ◌∙◌, zero-add, arith}
 use Rattle.std.specs.List.{slice_get}
-use Rattle.std.proofs.lemmas.List.{get_or-map}
 use Rattle.std.proofs.lemmas.List.Sums.{sum_by-cons}
 use Rattle.plan.specs.Filling.{leaves_before}
-use Rattle.plan.specs.Gathering.{leaves_from, leaves_of, places_of}
+use Rattle.plan.specs.Gathering.{leaves_from, leaves_of}
 use Rattle.plan.specs.Leaves.{fields_of}
 use Rattle.plan.specs.Nodes.{blank, leaf_count}
 use Rattle.plan.specs.declared.leaf.PlanLeaf.{PlanLeaf}
@@ -67,14 +65,6 @@ module _ (nodes : List Node) where
   pub numbered : (j : ℕ) (d : PlanLeaf) → j < length nodes → leaf_count (get_or nodes j blank) ≡ 1 →
       (leaves_before nodes j < length (leaves_of nodes)) × (get_or (leaves_of nodes) (leaves_before nodes j) d ≡ leaf_of j (get_or nodes j blank))
   numbered j d h one = let (l, e) = numbered_from nodes 0 j d h one in (l, e ∙ ap (λ m. leaf_of m (get_or nodes j blank)) (zero-add j))
-
-  -- what the places of the leaves tell, as an array has them
-  module _ (places : List ℕ) (count : ℕ) (fits : count ≤ length places) (stand : take count places ≡ places_of (leaves_of nodes)) where
-    pub leaf_count_lem : count ≡ length (leaves_of nodes)
-    leaf_count_lem = sym (length-take-le count places fits) ∙ ap length stand ∙ length-map (leaves_of nodes) (λ leaf. leaf.node)
-
-    pub place_of_lem : (i : ℕ) (d : PlanLeaf) → i < count → get_or places i 0 ≡ (get_or (leaves_of nodes) i d).node
-    place_of_lem i d h = sym (get_or-take count places i 0 h) ∙ ap (λ ps. get_or ps i 0) stand ∙ get_or-map (λ leaf. leaf.node) (leaves_of nodes) i d 0 (omega (arith, leaf_count_lem))
 
 -- an element by its number, after a map
 module _ {A B : Type 0} (f : A → B) where

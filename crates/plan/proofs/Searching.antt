@@ -16,14 +16,14 @@ use Rattle.plan.specs.declared.node.Op.TheVariants.{Product, Union, Difference}
 use Rattle.plan.specs.declared.node.Node.{Node}
 use Rattle.plan.specs.declared.node.Node.TheVariants.{Leaf, Choice, Pair}
 use Rattle.plan.specs.declared.plan.Plan.{Plan}
-use Rattle.plan.specs.declared.seek.Start.{Start}
-use Rattle.plan.specs.declared.seek.Start.TheVariants.{First, Past}
+use Rattle.std.specs.declared.ops.Bound.{Bound}
+use Rattle.std.specs.declared.ops.Bound.TheVariants.{Excluded, Unbounded}
 use Rattle.plan.proofs.Candidates.{candidates_at_lem, long_candidates}
 use Rattle.plan.proofs.Going.{Goes, goes_end, going_none, going_found}
 use Rattle.plan.proofs.Having.{Long}
 use Rattle.plan.proofs.Least.{least_append}
 use Rattle.plan.proofs.PlanNodes.{choice_in, pair_in}
-use Rattle.plan.proofs.Products.{product_none, product_empty, product_here, product_over, product_next}
+use Rattle.plan.proofs.Products.{with_line, product_none, product_empty, product_here, product_over, product_next}
 
 two_parts : {A : Type 0} (m n : ℕ) (xs : List A) → take (m + n) xs ≡ take m xs ++ take n (drop m xs)
 two_parts m n xs = sym (take-append-drop m (take (m + n) xs)) ∙ ap₂ ◌++◌ (take-take m (m + n) xs (omega arith)) (drop-take m n xs)
@@ -36,45 +36,45 @@ module _ (plan : Plan) (rows : List Row) where
   Wide k = get_or plan.widths k 0
 
   -- what a search at the node k finds
-  abbrev pub Finds : ℕ → List ℕ → Start → Option (List ℕ) → Type 0
-  Finds k at start r = Least (Cands k) start (take (Wide k) at) (Wide k) r
+  abbrev pub Finds : ℕ → List ℕ → Bound (List ℕ) → Option (List ℕ) → Type 0
+  Finds k at start r = Least (Cands k) (with_line start (take (Wide k) at)) (Wide k) r
 
-  module _ (k : ℕ) (h : k < plan.count) (at : List ℕ) (start : Start) where
-    are : (n : Node) → get_or plan.nodes k blank ≡ n → Cands k ≡ candidates_of rows (grown (candidates_of rows) [] (nodes_of plan)) n
+  module _ (k : ℕ) (h : k < length (nodes_of plan)) (at : List ℕ) (start : Bound (List ℕ)) where
+    are : (n : Node) → get_or (nodes_of plan) k blank ≡ n → Cands k ≡ candidates_of rows (grown (candidates_of rows) [] (nodes_of plan)) n
     are n e = candidates_at_lem plan rows k h ∙ ap (candidates_of rows (grown (candidates_of rows) [] (nodes_of plan))) e
 
     -- by the candidates and the width of the node
-    moved : (cs : List (List ℕ)) (w : ℕ) → Cands k ≡ cs → Wide k ≡ w → (r : Option (List ℕ)) → Least cs start (take w at) w r → Finds k at start r
-    moved cs w e f r l = subst (λ n. Least (Cands k) start (take n at) n r) (sym f) (subst (λ ts. Least ts start (take w at) w r) (sym e) l)
+    moved : (cs : List (List ℕ)) (w : ℕ) → Cands k ≡ cs → Wide k ≡ w → (r : Option (List ℕ)) → Least cs (with_line start (take w at)) w r → Finds k at start r
+    moved cs w e f r l = subst (λ n. Least (Cands k) (with_line start (take n at)) n r) (sym f) (subst (λ ts. Least ts (with_line start (take w at)) w r) (sym e) l)
 
-    pub leaf_finds : (relation arity : ℕ) (fields : List Field) → get_or plan.nodes k blank ≡ Leaf relation arity fields → (r : Option (List ℕ)) →
-        Least (leaf_lines relation (fields_of arity fields) rows) start (take (Wide k) at) (Wide k) r → Finds k at start r
+    pub leaf_finds : (relation arity : ℕ) (fields : List Field) → get_or (nodes_of plan) k blank ≡ Leaf relation arity fields → (r : Option (List ℕ)) →
+        Least (leaf_lines relation (fields_of arity fields) rows) (with_line start (take (Wide k) at)) (Wide k) r → Finds k at start r
     leaf_finds relation arity fields e r l = moved (leaf_lines relation (fields_of arity fields) rows) (Wide k) (are (Leaf relation arity fields) e) refl r l
 
-    module _ (m : ℕ) (left : Side) (sign : Sign) (right : Side) (e : get_or plan.nodes k blank ≡ Choice m left sign right) (from : Option (List ℕ)) (found : Finds m at start from) where
+    module _ (m : ℕ) (left : Side) (sign : Sign) (right : Side) (e : get_or (nodes_of plan) k blank ≡ Choice m left sign right) (from : Option (List ℕ)) (found : Finds m at start from) where
       abbrev Test : List ℕ → Bool
       Test = chosen left sign right
 
       pub choice_finds : (a : List ℕ) → Goes (Cands m) Test (Wide m) from (Some a) → Test (take (Wide m) a) ≡ true → Finds k at start (Some a)
       choice_finds a g good = moved _ (Wide m) (are (Choice m left sign right) e) (choice_in plan k h m left sign right e).1 (Some a)
-          (going_found (Cands m) Test start (take (Wide m) at) (Wide m) a (goes_end (Cands m) Test start (take (Wide m) at) (Wide m) from found (Some a) g) good)
+          (going_found (Cands m) Test (with_line start (take (Wide m) at)) (Wide m) a (goes_end (Cands m) Test (with_line start (take (Wide m) at)) (Wide m) from found (Some a) g) good)
 
       pub choice_ends : Goes (Cands m) Test (Wide m) from None → Finds k at start None
       choice_ends g = moved _ (Wide m) (are (Choice m left sign right) e) (choice_in plan k h m left sign right e).1 None
-          (going_none (Cands m) Test start (take (Wide m) at) (Wide m) (goes_end (Cands m) Test start (take (Wide m) at) (Wide m) from found None g))
+          (going_none (Cands m) Test (with_line start (take (Wide m) at)) (Wide m) (goes_end (Cands m) Test (with_line start (take (Wide m) at)) (Wide m) from found None g))
 
-    pub union_finds : (l r : ℕ) → get_or plan.nodes k blank ≡ Pair Union l r → (a b : Option (List ℕ)) → Finds l at start a → Finds r at start b → Finds k at start (lesser (Wide k) a b)
+    pub union_finds : (l r : ℕ) → get_or (nodes_of plan) k blank ≡ Pair Union l r → (a b : Option (List ℕ)) → Finds l at start a → Finds r at start b → Finds k at start (lesser (Wide k) a b)
     union_finds l r e a b f g =
         let (i, j, same, like) = pair_in plan k h Union l r e in
         let w : Wide r ≡ Wide l = sym (eqb-true (Wide l) (Wide r) like) in
         moved (Cands l ++ Cands r) (Wide l) (are (Pair Union l r) e) same (lesser (Wide k) a b)
-        (subst (λ n. Least (Cands l ++ Cands r) start (take (Wide l) at) (Wide l) (lesser n a b)) (sym same)
-        (least_append start (take (Wide l) at) (Wide l) (Cands l) (Cands r) a b f (subst (λ n. Least (Cands r) start (take n at) n b) w g)))
+        (subst (λ n. Least (Cands l ++ Cands r) (with_line start (take (Wide l) at)) (Wide l) (lesser n a b)) (sym same)
+        (least_append (with_line start (take (Wide l) at)) (Wide l) (Cands l) (Cands r) a b f (subst (λ n. Least (Cands r) (with_line start (take n at)) n b) w g)))
 
-    pub difference_finds : (l r : ℕ) → get_or plan.nodes k blank ≡ Pair Difference l r → (a : Option (List ℕ)) → Finds l at start a → Finds k at start a
+    pub difference_finds : (l r : ℕ) → get_or (nodes_of plan) k blank ≡ Pair Difference l r → (a : Option (List ℕ)) → Finds l at start a → Finds k at start a
     difference_finds l r e a f = moved (Cands l) (Wide l) (are (Pair Difference l r) e) (pair_in plan k h Difference l r e).2 a f
 
-    module _ (l r : ℕ) (e : get_or plan.nodes k blank ≡ Pair Product l r) (eight : length at ≡ 8) where
+    module _ (l r : ℕ) (e : get_or (nodes_of plan) k blank ≡ Pair Product l r) (eight : length at ≡ 8) where
       abbrev Both : List (List ℕ)
       Both = lines_by Product (Cands l) (Cands r)
 
@@ -85,9 +85,9 @@ module _ (plan : Plan) (rows : List Row) where
       both_room = omega (arith, (pair_in plan k h Product l r e).2, (plan.wide k h).2)
 
       -- the start, in two parts
-      lift : (o : Option (List ℕ)) → Least Both start (take (Wide l) at ++ take (Wide r) (drop (Wide l) at)) (Wide l + Wide r) o → Finds k at start o
+      lift : (o : Option (List ℕ)) → Least Both (with_line start (take (Wide l) at ++ take (Wide r) (drop (Wide l) at))) (Wide l + Wide r) o → Finds k at start o
       lift o f = moved Both (Wide l + Wide r) (are (Pair Product l r) e) (pair_in plan k h Product l r e).2 o
-          (subst (λ s. Least Both start s (Wide l + Wide r) o) (sym (two_parts (Wide l) (Wide r) at)) f)
+          (subst (λ s. Least Both (with_line start s) (Wide l + Wide r) o) (sym (two_parts (Wide l) (Wide r) at)) f)
 
       begin : length (take (Wide l) at) ≡ Wide l
       begin = length-take-le (Wide l) at (omega (arith, both_room))
@@ -95,24 +95,24 @@ module _ (plan : Plan) (rows : List Row) where
       pub left_ends : Finds l at (on_left start) None → Finds k at start None
       left_ends f = lift None (product_none (Cands l) (Cands r) (Wide l) (Wide r) long_left (take (Wide l) at) (take (Wide r) (drop (Wide l) at)) begin start f)
 
-      pub right_empty : Finds r at First None → Finds k at start None
-      right_empty f = lift None (product_empty (Cands l) (Cands r) (Wide l) (Wide r) long_left (take (Wide l) at) (take (Wide r) (drop (Wide l) at)) begin start (take (Wide r) at) f)
+      pub right_empty : Finds r at Unbounded None → Finds k at start None
+      right_empty f = lift None (product_empty (Cands l) (Cands r) (Wide l) (Wide r) long_left (take (Wide l) at) (take (Wide r) (drop (Wide l) at)) begin start f)
 
       module _ (x : List ℕ) (left : Finds l at (on_left start) (Some x)) (b : List ℕ) (eb : take (8 - Wide l) b ≡ drop (Wide l) at) (past : Bool) (ep : past ≡ before (take (Wide l) at) (take (Wide l) x)) where
         rest : take (Wide r) b ≡ take (Wide r) (drop (Wide l) at)
         rest = let small : Wide r ≤ 8 - Wide l = omega (arith, both_room) in sym (take-take (Wide r) (8 - Wide l) b small) ∙ ap (take (Wide r)) eb
 
-        on : (o : Option (List ℕ)) → Finds r b (on_right start past) o → Least (Cands r) (on_right start (before (take (Wide l) at) (take (Wide l) x))) (take (Wide r) (drop (Wide l) at)) (Wide r) o
-        on o f = subst (λ s. Least (Cands r) (on_right start (before (take (Wide l) at) (take (Wide l) x))) s (Wide r) o) rest (subst (λ z. Least (Cands r) (on_right start z) (take (Wide r) b) (Wide r) o) ep f)
+        on : (o : Option (List ℕ)) → Finds r b (on_right start past) o → Least (Cands r) (with_line (on_right start (before (take (Wide l) at) (take (Wide l) x))) (take (Wide r) (drop (Wide l) at))) (Wide r) o
+        on o f = subst (λ s. Least (Cands r) (with_line (on_right start (before (take (Wide l) at) (take (Wide l) x))) s) (Wide r) o) rest (subst (λ z. Least (Cands r) (with_line (on_right start z) (take (Wide r) b)) (Wide r) o) ep f)
 
         pub here_finds : (y z : List ℕ) → Finds r b (on_right start past) (Some y) → take (Wide l + Wide r) z ≡ take (Wide l) x ++ take (Wide r) y → length z ≡ 8 → Padded (Wide l + Wide r) z → Finds k at start (Some z)
         here_finds y z f parts long pad = lift (Some z)
             (product_here (Cands l) (Cands r) (Wide l) (Wide r) long_left (take (Wide l) at) (take (Wide r) (drop (Wide l) at)) begin start x left y z (on (Some y) f) parts long pad)
 
         module _ (right : Finds r b (on_right start past) None) where
-          pub both_end : Finds l x Past None → Finds k at start None
+          pub both_end : Finds l x (Excluded x) None → Finds k at start None
           both_end f = lift None (product_over (Cands l) (Cands r) (Wide l) (Wide r) long_left (take (Wide l) at) (take (Wide r) (drop (Wide l) at)) begin start x left (on None right) f)
 
-          pub next_finds : (c y z : List ℕ) → Finds l x Past (Some c) → Finds r at First (Some y) → take (Wide l + Wide r) z ≡ take (Wide l) c ++ take (Wide r) y → length z ≡ 8 → Padded (Wide l + Wide r) z → Finds k at start (Some z)
+          pub next_finds : (c y z : List ℕ) → Finds l x (Excluded x) (Some c) → Finds r at Unbounded (Some y) → take (Wide l + Wide r) z ≡ take (Wide l) c ++ take (Wide r) y → length z ≡ 8 → Padded (Wide l + Wide r) z → Finds k at start (Some z)
           next_finds c y z f g parts long pad = lift (Some z)
-              (product_next (Cands l) (Cands r) (Wide l) (Wide r) long_left (take (Wide l) at) (take (Wide r) (drop (Wide l) at)) begin start x left (on None right) c y z (take (Wide r) at) f g parts long pad)
+              (product_next (Cands l) (Cands r) (Wide l) (Wide r) long_left (take (Wide l) at) (take (Wide r) (drop (Wide l) at)) begin start x left (on None right) c y z f g parts long pad)

@@ -1,9 +1,10 @@
 -- The leaves of a plan, in order.
-use Rattle.std.specs.Prelude.{◌≡◌, ℕ, ◌+◌, ◌≤◌, List, [], ◌∷◌, map, length, take}
+use Rattle.std.specs.Prelude.{◌≡◌, ℕ, ◌+◌, List, [], ◌∷◌, length}
+use Rattle.ordered.specs.Lists.{items_in}
+use Rattle.ordered.specs.declared.few.Few.{Few}
 use Rattle.plan.specs.Filling.{first, poor_at}
 use Rattle.plan.specs.Leaves.{fields_of}
 use Rattle.plan.specs.declared.leaf.PlanLeaf.{PlanLeaf}
-use Rattle.plan.specs.declared.leaves.Leaves.{Leaves}
 use Rattle.plan.specs.declared.node.Node.{Node}
 use Rattle.plan.specs.declared.node.Node.TheVariants.{Leaf, Choice, Pair}
 
@@ -18,13 +19,7 @@ leaves_from k (Pair op left right ∷ nodes) = leaves_from (k + 1) nodes
 abbrev pub leaves_of : List Node → List PlanLeaf
 leaves_of nodes = leaves_from 0 nodes
 
--- where they stand
-abbrev pub places_of : List PlanLeaf → List ℕ
-places_of leaves = map (λ leaf. leaf.node) leaves
-
--- the places of at most six leaves, none of which fails
-pub record Gathered (nodes : List Node) (leaves : Leaves) : Type 0 where
+-- at most six leaves in order, none of which fails
+pub record Gathered (nodes : List Node) (leaves : Few PlanLeaf 6) : Type 0 where
   pub none : first (poor_at nodes) (length nodes) ≡ length nodes
-  pub long : length leaves.places ≡ 6
-  pub six : leaves.count ≤ 6
-  pub stand : take leaves.count leaves.places ≡ places_of (leaves_of nodes)
+  pub stand : items_in leaves ≡ leaves_of nodes

@@ -1,5 +1,6 @@
 -- What a plan is, and what filling one does.
-use Rattle.std.specs.Prelude.{◌≡◌, List, [], ◌∷◌, take, replicate, Some, None, Ok, Err, Result}
+use Rattle.std.specs.Prelude.{◌≡◌, List, [], ◌∷◌, replicate, Some, None, Ok, Err, Result}
+use Rattle.ordered.specs.Lists.{items_in}
 use Rattle.plan.specs.Filling.{fill_refusal}
 use Rattle.plan.specs.declared.node.Field.TheVariants.{Open}
 use Rattle.plan.specs.declared.node.Node.{Node}
@@ -9,7 +10,7 @@ use Rattle.plan.specs.declared.refusal.Refusal.{Refusal}
 
 -- the nodes of a plan
 abbrev pub nodes_of : Plan → List Node
-nodes_of plan = take plan.count plan.nodes
+nodes_of plan = items_in plan.nodes
 
 -- the plan at first: one open leaf of relation 0, arity 1
 abbrev pub first_nodes : List Node

@@ -1,5 +1,5 @@
 -- The rows that a line names at a plan's leaves, and the plan's truth at them.
-use Rattle.std.specs.Prelude.{◌≡◌, ℕ, ◌-◌, Bool, false, not, ◌&&◌, ◌||◌, List, [], map, length, take, drop, ◌==◌, slice_index, slice_index_or}
+use Rattle.std.specs.Prelude.{◌≡◌, ℕ, ◌-◌, Bool, false, not, ◌&&◌, ◌||◌, List, [], map, length, take, drop, ◌==◌, nat_le, slice_index, slice_index_or}
 use Rattle.store.specs.Rows.{zero_from}
 use Rattle.store.specs.declared.row.Row.{Row}
 use Rattle.plan.specs.Answers.{among, chosen, plan_width}
@@ -37,6 +37,10 @@ truth_of own part done (Pair op left right) = combined op (slice_index_or done l
 -- the truth of each node for a line, where `truth` tells in order whether the rows are there that the leaves name
 abbrev pub truths : Plan → List ℕ → List Bool → List Bool
 truths plan columns truth = grown (λ done. truth_of (slice_index_or truth (leaves_before (nodes_of plan) (length done)) false) (part_at plan columns (length done)) done) [] (nodes_of plan)
+
+-- the column is past the width, and not zero
+abbrev pub over : ℕ → List ℕ → ℕ → Bool
+over width columns k = nat_le width k && not (slice_index columns k == 0)
 
 -- eight columns, with zeros from the width on
 abbrev pub line_fits : ℕ → List ℕ → Bool

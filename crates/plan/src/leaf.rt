@@ -16,14 +16,26 @@ pub struct PlanLeaf {
     pub fields: [Field; 4],
 }
 
+impl PlanLeaf {
+    // The leaf that stands at this place.
+    pub(crate) fn new(node: usize, relation: u16, arity: u8, fields: [Field; 4]) -> PlanLeaf
+        ensures { result ≡ record { node = node; relation = relation; arity = arity; fields = fields_of arity fields } }
+    {
+        PlanLeaf {
+            node,
+            relation,
+            arity,
+            fields: fields_of(arity, fields),
+        }
+    }
+}
+
 // The fields that count: those from the arity on are fixed at zero.
 pub fn fields_of(arity: u8, fields: [Field; 4]) -> [Field; 4]
     ensures { result ≡ fields_of arity fields }
 {
     let mut all = fields;
-    for i in arity as usize..4 {
-        all[i] = Field::Fixed(0);
-    }
+    all[(arity as usize).min(4)..].fill(Field::Fixed(0));
     all
 }
 
@@ -32,13 +44,10 @@ pub fn open_count(fields: [Field; 4]) -> usize
     ensures count { result ≡ opens fields }
     ensures few { result ≤ 4 }
 {
-    let mut open = 0;
-    for field in fields {
-        if let Field::Open = field {
-            open += 1;
-        }
-    }
-    open
+    fields
+        .iter()
+        .filter(|field| matches!(field, Field::Open))
+        .count()
 }
 
 // The row that a line names at a leaf: its constants, and the line's numbers at its open fields.
@@ -47,15 +56,12 @@ pub fn named_row(relation: u16, fields: [Field; 4], line: &[u32]) -> Row
     ensures { result ≡ named relation fields line.now }
 {
     let mut columns = [0; 4];
-    let mut next = 0;
-    for i in 0..4 {
-        match fields[i] {
-            Field::Open => {
-                columns[i] = line[next];
-                next += 1;
-            }
-            Field::Fixed(constant) => columns[i] = constant,
-        }
+    let mut numbers = line.iter();
+    for (i, field) in fields.iter().enumerate() {
+        columns[i] = match *field {
+            Field::Open => *numbers.next().unwrap_or(&0),
+            Field::Fixed(constant) => constant,
+        };
     }
     Row { relation, columns }
 }

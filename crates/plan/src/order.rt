@@ -1,5 +1,5 @@
 // Whether the nodes name one another as they should.
-ghost use Rattle.std.specs.Prelude.{◌≡◌, ◌-◌, ◌<◌, ◌≤◌, length, sum_by};
+ghost use Rattle.std.specs.Prelude.{◌≡◌, ◌-◌, ◌<◌, ◌≤◌, length, sum_by, Some, None, MatchResult};
 ghost use Rattle.plan.specs.Filling.{late_at, stray_at, Spots};
 ghost use Rattle.plan.specs.Nodes.{late, namings};
 
@@ -16,16 +16,14 @@ fn names_late(k: usize, node: Node) -> bool
     }
 }
 
-// The first node that names one not earlier.
-pub fn first_late(nodes: &[Node]) -> Option<usize>
-    ensures { Spots (late_at nodes.now) (length nodes.now) result }
+// Whether each node names earlier ones only; if not, the first that does not.
+pub fn check_earlier(nodes: &[Node]) -> Result<(), usize>
+    ensures { MatchResult result (λ _. Spots (late_at nodes.now) (length nodes.now) None) (λ k. Spots (late_at nodes.now) (length nodes.now) (Some k)) }
 {
-    for (k, node) in nodes.iter().enumerate() {
-        if names_late(k, *node) {
-            return Some(k);
-        }
+    match (0..nodes.len()).find(|k| names_late(*k, nodes[*k])) {
+        Some(k) => Err(k),
+        None => Ok(()),
     }
-    None
 }
 
 // How often the node names the one at `k`.
@@ -46,23 +44,17 @@ fn times_named(nodes: &[Node], k: usize) -> usize
     requires { length nodes.now ≤ 16 }
     ensures { result ≡ sum_by (namings k) nodes.now }
 {
-    let mut times = 0;
-    for node in nodes {
-        times += namings_in(*node, k);
-    }
-    times
+    nodes.iter().map(|node| namings_in(*node, k)).sum()
 }
 
-// The first node but the last that is not named exactly once.
-pub fn first_stray(nodes: &[Node]) -> Option<usize>
+// Whether each node but the last is named exactly once; if not, the first that is not.
+pub fn check_named(nodes: &[Node]) -> Result<(), usize>
     requires some { 0 < length nodes.now }
     requires few { length nodes.now ≤ 16 }
-    ensures { Spots (stray_at nodes.now) (length nodes.now - 1) result }
+    ensures { MatchResult result (λ _. Spots (stray_at nodes.now) (length nodes.now - 1) None) (λ k. Spots (stray_at nodes.now) (length nodes.now - 1) (Some k)) }
 {
-    for k in 0..nodes.len() - 1 {
-        if times_named(nodes, k) != 1 {
-            return Some(k);
-        }
+    match (0..nodes.len() - 1).find(|k| times_named(nodes, *k) != 1) {
+        Some(k) => Err(k),
+        None => Ok(()),
     }
-    None
 }

@@ -1,43 +1,31 @@
 // The least line from a start on, where lines are arrays of eight columns of which the first so many count.
 ghost use Rattle.std.specs.Prelude.{◌≡◌, ◌+◌, ◌-◌, ◌≤◌, true, false, [], ◌∷◌, ◌++◌, length, take, drop, MatchOption};
+ghost use Rattle.std.specs.Range.Bound.{bound_map};
 ghost use Rattle.plan.specs.Leaves.{opens, matches, opened, leaf_lines};
 ghost use Rattle.plan.specs.Seeking.{reaches, Padded, Least, lesser, on_left, on_right};
 ghost use Rattle.plan.specs.Streams.{before};
 
 use crate::node::Field;
-use std::cmp::Ordering;
+use std::ops::Bound;
 use store::Row;
-
-// Which lines a search takes: any, those from a line on, or those past it.
-#[derive(Clone, Copy)]
-pub enum Start {
-    First,
-    At,
-    Past,
-}
 
 // Whether one line is before the other.
 pub fn is_before(a: &[u32; 8], b: &[u32; 8], width: usize) -> bool
     requires { width ≤ 8 }
     ensures { result ≡ before (take width a.now) (take width b.now) }
 {
-    let a = &a[0..width];
-    let b = &b[0..width];
-    match a.cmp(&b) {
-        Ordering::Less => true,
-        _ => false,
-    }
+    a[..width].cmp(&b[..width]).is_lt()
 }
 
-// Whether a search that starts so takes the line.
-fn is_reached(start: Start, at: &[u32; 8], line: &[u32; 8], width: usize) -> bool
+// Whether a search with this start takes the line; of the start's line, too, so many columns count.
+fn is_reached(start: Bound<[u32; 8]>, line: &[u32; 8], width: usize) -> bool
     requires { width ≤ 8 }
-    ensures { result ≡ reaches start (take width at.now) (take width line.now) }
+    ensures { result ≡ reaches (bound_map (take width) start) (take width line.now) }
 {
     match start {
-        Start::First => true,
-        Start::At => !is_before(line, at, width),
-        Start::Past => is_before(at, line, width),
+        Bound::Unbounded => true,
+        Bound::Included(at) => !is_before(line, &at, width),
+        Bound::Excluded(at) => is_before(&at, line, width),
     }
 }
 
@@ -49,11 +37,7 @@ pub fn lesser_of(a: Option<[u32; 8]>, b: Option<[u32; 8]>, width: usize) -> Opti
     match (a, b) {
         (None, other) => other,
         (Some(x), None) => Some(x),
-        (Some(x), Some(y)) => if is_before(&y, &x, width) {
-            Some(y)
-        } else {
-            Some(x)
-        },
+        (Some(x), Some(y)) => Some(if is_before(&y, &x, width) { y } else { x }),
     }
 }
 
@@ -84,25 +68,18 @@ pub fn row_line(
     relation: u16,
     fields: [Field; 4],
     row: &Row,
-    at: &[u32; 8],
-    start: Start,
+    start: Bound<[u32; 8]>,
     width: usize,
 ) -> Option<[u32; 8]>
     requires room { width ≤ 8 }
     requires wide { width ≡ opens fields }
-    ensures { Least (leaf_lines relation fields (row.now ∷ [])) start (take width at.now) width result }
+    ensures { Least (leaf_lines relation fields (row.now ∷ [])) (bound_map (take width) start) width result }
 {
     if row.relation != relation {
         return None;
     }
-    let Some(line) = opened_line(fields, row.columns) else {
-        return None;
-    };
-    if is_reached(start, at, &line, width) {
-        Some(line)
-    } else {
-        None
-    }
+    let line = opened_line(fields, row.columns)?;
+    is_reached(start, &line, width).then_some(line)
 }
 
 // A left line followed by a right line.
@@ -114,9 +91,7 @@ pub fn joined(left: [u32; 8], right: &[u32; 8], cut: usize, wide: usize) -> [u32
     ensures padded { Padded (cut + wide) result }
 {
     let mut all = left;
-    for i in 0..wide {
-        all[cut + i] = right[i];
-    }
+    all[cut..cut + wide].copy_from_slice(&right[..wide]);
     all
 }
 
@@ -126,25 +101,23 @@ pub fn tail(line: &[u32; 8], cut: usize) -> [u32; 8]
     ensures { take (8 - cut) result ≡ drop cut line.now }
 {
     let mut rest = [0; 8];
-    for i in 0..8 - cut {
-        rest[i] = line[cut + i];
-    }
+    rest[..8 - cut].copy_from_slice(&line[cut..]);
     rest
 }
 
 // How a product's search begins on the left: from the start's left part on.
-pub fn on_left(start: Start) -> Start
+pub fn on_left(start: Bound<[u32; 8]>) -> Bound<[u32; 8]>
     ensures { result ≡ on_left start }
 {
     match start {
-        Start::First => Start::First,
-        Start::At | Start::Past => Start::At,
+        Bound::Unbounded => Bound::Unbounded,
+        Bound::Included(at) | Bound::Excluded(at) => Bound::Included(at),
     }
 }
 
 // How it goes on to the right of a left line that is past the start's left part, or at it.
-pub fn on_right(start: Start, past: bool) -> Start
+pub fn on_right(start: Bound<[u32; 8]>, past: bool) -> Bound<[u32; 8]>
     ensures { result ≡ on_right start past }
 {
-    if past { Start::First } else { start }
+    if past { Bound::Unbounded } else { start }
 }

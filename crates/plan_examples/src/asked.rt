@@ -1,7 +1,7 @@
 // Which lines are answers over a few rows.
 use crate::answers::is_answer;
 use crate::nodes::*;
-use plan::{Line, Node, Plan, Side};
+use plan::{Line, Node, Op, Plan, Side};
 use std::io;
 use store::{Row, Sign};
 
@@ -35,7 +35,7 @@ fn ask(
     second: [u32; 8],
 ) -> io::Result<()> {
     let mut plan = Plan::new();
-    if let Err(_) = plan.fill(nodes) {
+    if plan.fill(nodes).is_err() {
         return println!(rt; "{name}: refused");
     }
     let rows = rows();
@@ -115,7 +115,7 @@ pub fn leaves_and_choices(rt: &HostRuntime) -> io::Result<()> {
 // Pairs, and the leaf that a plan is at first.
 pub fn pairs(rt: &HostRuntime) -> io::Result<()> {
     let same_hall = choice(2, Side::Column(0), Sign::Equal, Side::Column(2));
-    let join = [open(2, 1), open(1, 2), product(0, 1), same_hall];
+    let join = [open(2, 1), open(1, 2), pair(Op::Product, 0, 1), same_hall];
     ask(
         rt,
         "skaters in open halls",
@@ -123,7 +123,7 @@ pub fn pairs(rt: &HostRuntime) -> io::Result<()> {
         [7, 2, 7, 0, 0, 0, 0, 0],
         [7, 2, 8, 0, 0, 0, 0, 0],
     )?;
-    let either = [second(1, 7), second(1, 8), union(0, 1)];
+    let either = [second(1, 7), second(1, 8), pair(Op::Union, 0, 1)];
     ask(
         rt,
         "in hall 7 or 8",
@@ -131,7 +131,7 @@ pub fn pairs(rt: &HostRuntime) -> io::Result<()> {
         [1, 0, 0, 0, 0, 0, 0, 0],
         [3, 0, 0, 0, 0, 0, 0, 0],
     )?;
-    let only = [second(1, 7), second(1, 8), difference(0, 1)];
+    let only = [second(1, 7), second(1, 8), pair(Op::Difference, 0, 1)];
     ask(
         rt,
         "in hall 7 and not in 8",
@@ -156,7 +156,10 @@ pub fn names(rt: &HostRuntime) -> io::Result<()> {
     let line = Line {
         columns: [7, 2, 8, 0, 0, 0, 0, 0],
     };
-    if let Err(_) = plan.fill(&[open(2, 1), open(1, 2), product(0, 1)]) {
+    if plan
+        .fill(&[open(2, 1), open(1, 2), pair(Op::Product, 0, 1)])
+        .is_err()
+    {
         return println!(rt; "refused");
     }
     for number in 0..3 {

@@ -30,17 +30,6 @@ pub fn choice(node: u8, left: Side, sign: Sign, right: Side) -> Node {
     }
 }
 
-pub fn product(left: u8, right: u8) -> Node {
-    let op = Op::Product;
-    Node::Pair { op, left, right }
-}
-
-pub fn union(left: u8, right: u8) -> Node {
-    let op = Op::Union;
-    Node::Pair { op, left, right }
-}
-
-pub fn difference(left: u8, right: u8) -> Node {
-    let op = Op::Difference;
+pub fn pair(op: Op, left: u8, right: u8) -> Node {
     Node::Pair { op, left, right }
 }

@@ -1,6 +1,7 @@
 // What `fill` says of nodes.
 use crate::nodes::*;
-use plan::{Field, Node, Plan, Side};
+use fault::Notice;
+use plan::{Field, Node, Op, Plan, Side};
 use std::io;
 use store::Sign;
 
@@ -14,9 +15,11 @@ fn tell(rt: &HostRuntime, name: &str, nodes: &[Node]) -> io::Result<()> {
             println!(rt; "{name}: width {width}, leaves {leaves}")
         }
         Err(refusal) => {
-            let notice = refusal.notice();
-            let number = notice.number;
-            let position = notice.position;
+            let Notice {
+                number,
+                position,
+                ..
+            } = Notice::from(refusal);
             println!(rt; "{name}: refused {number} at {position}")
         }
     }
@@ -34,9 +37,9 @@ fn tower() -> [Node; 16] {
 // Seven leaves, and the union of them all.
 fn seven() -> [Node; 13] {
     let mut nodes = [open(0, 1); 13];
-    nodes[7] = union(0, 1);
+    nodes[7] = pair(Op::Union, 0, 1);
     for k in 8..13u8 {
-        nodes[k as usize] = union(k - 1, k - 6);
+        nodes[k as usize] = pair(Op::Union, k - 1, k - 6);
     }
     nodes
 }
@@ -51,7 +54,7 @@ pub fn accepted(rt: &HostRuntime) -> io::Result<()> {
     tell(
         rt,
         "eight columns",
-        &[open(1, 4), open(2, 4), product(0, 1)],
+        &[open(1, 4), open(2, 4), pair(Op::Product, 0, 1)],
     )?;
     tell(rt, "sixteen nodes", &tower())?;
     let six = [
@@ -61,11 +64,11 @@ pub fn accepted(rt: &HostRuntime) -> io::Result<()> {
         open(0, 1),
         open(0, 1),
         open(0, 1),
-        union(0, 1),
-        union(2, 3),
-        difference(4, 5),
-        product(6, 7),
-        product(8, 9),
+        pair(Op::Union, 0, 1),
+        pair(Op::Union, 2, 3),
+        pair(Op::Difference, 4, 5),
+        pair(Op::Product, 6, 7),
+        pair(Op::Product, 8, 9),
     ];
     tell(rt, "six leaves", &six)
 }
@@ -81,7 +84,7 @@ pub fn misnamed(rt: &HostRuntime) -> io::Result<()> {
     tell(
         rt,
         "a node that names a later one",
-        &[open(0, 1), product(0, 2), open(0, 1)],
+        &[open(0, 1), pair(Op::Product, 0, 2), open(0, 1)],
     )?;
     tell(
         rt,
@@ -91,12 +94,17 @@ pub fn misnamed(rt: &HostRuntime) -> io::Result<()> {
     tell(
         rt,
         "a node that is named twice",
-        &[open(0, 1), open(0, 1), product(0, 1), union(1, 2)],
+        &[
+            open(0, 1),
+            open(0, 1),
+            pair(Op::Product, 0, 1),
+            pair(Op::Union, 1, 2),
+        ],
     )?;
     tell(
         rt,
         "a late name counts before a stray node",
-        &[open(0, 1), open(0, 1), union(1, 2)],
+        &[open(0, 1), open(0, 1), pair(Op::Union, 1, 2)],
     )
 }
 
@@ -108,17 +116,27 @@ pub fn poor(rt: &HostRuntime) -> io::Result<()> {
         [Field::Fixed(1), Field::Fixed(2), Field::Open, Field::Open],
     );
     tell(rt, "arity 0", &[open(0, 0)])?;
-    tell(rt, "arity 5", &[open(0, 1), open(0, 5), union(0, 1)])?;
+    tell(
+        rt,
+        "arity 5",
+        &[open(0, 1), open(0, 5), pair(Op::Union, 0, 1)],
+    )?;
     tell(
         rt,
         "no open column",
-        &[open(0, 1), open(0, 1), shut, union(0, 1), union(2, 3)],
+        &[
+            open(0, 1),
+            open(0, 1),
+            shut,
+            pair(Op::Union, 0, 1),
+            pair(Op::Union, 2, 3),
+        ],
     )?;
     tell(rt, "seven leaves", &seven())?;
     tell(
         rt,
         "a leaf counts before a width",
-        &[open(0, 2), open(0, 0), union(0, 1)],
+        &[open(0, 2), open(0, 0), pair(Op::Union, 0, 1)],
     )
 }
 
@@ -135,27 +153,27 @@ pub fn unfit(rt: &HostRuntime) -> io::Result<()> {
     tell(
         rt,
         "a union of unequal widths",
-        &[open(0, 1), open(0, 2), union(0, 1)],
+        &[open(0, 1), open(0, 2), pair(Op::Union, 0, 1)],
     )?;
     tell(
         rt,
         "a difference of unequal widths",
-        &[open(0, 3), open(0, 2), difference(0, 1)],
+        &[open(0, 3), open(0, 2), pair(Op::Difference, 0, 1)],
     )?;
     let nine = [
         open(0, 4),
         open(0, 4),
-        product(0, 1),
+        pair(Op::Product, 0, 1),
         open(0, 1),
-        product(2, 3),
+        pair(Op::Product, 2, 3),
     ];
     tell(rt, "nine columns", &nine)?;
     let two = [
         open(0, 1),
         open(0, 2),
-        union(0, 1),
+        pair(Op::Union, 0, 1),
         open(0, 4),
-        difference(2, 3),
+        pair(Op::Difference, 2, 3),
     ];
     tell(rt, "the first of two that fail", &two)
 }

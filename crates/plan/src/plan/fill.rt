@@ -1,15 +1,17 @@
 // How a plan is made and filled.
-ghost use Rattle.std.specs.Prelude.{◌≡◌, ◌≤◌, length, take, Some, None, MatchResult};
+ghost use Rattle.std.specs.Prelude.{◌≡◌, Some, None, MatchResult};
 ghost use Rattle.plan.specs.Filling.{fill_refusal};
 ghost use Rattle.plan.specs.Plans.{nodes_of, first_nodes, FillSays};
 
 use super::Plan;
-use crate::leaves::{Leaves, gather};
+use crate::leaf::PlanLeaf;
+use crate::leaves::gather;
 use crate::node::{Field, Node};
 use crate::offsets::offsets_of;
-use crate::order::{first_late, first_stray};
+use crate::order::{check_earlier, check_named};
 use crate::refusal::Refusal;
 use crate::widths::measure;
+use ordered::Few;
 
 // An open leaf of relation 0, arity 1.
 const OPEN: Node = Node::Leaf {
@@ -18,43 +20,19 @@ const OPEN: Node = Node::Leaf {
     fields: [Field::Open; 4],
 };
 
-// The nodes in an array that is long enough for any plan.
-fn copied(nodes: &[Node]) -> [Node; 16]
-    requires { length nodes.now ≤ 16 }
-    ensures same { take (length nodes.now) result ≡ nodes.now }
-    ensures long { length result ≡ 16 }
-{
-    let mut all = [OPEN; 16];
-    for i in 0..nodes.len() {
-        all[i] = nodes[i];
-    }
-    all
-}
-
 // The plan of these nodes, or why they make none.
 fn plan_of(nodes: &[Node]) -> Result<Plan, Refusal>
     ensures { MatchResult result (λ plan. (fill_refusal nodes.now ≡ None) × (nodes_of plan ≡ nodes.now)) (λ e. fill_refusal nodes.now ≡ Some e) }
 {
-    if nodes.len() == 0 || nodes.len() > 16 {
+    if nodes.is_empty() || nodes.len() > 16 {
         return Err(Refusal::Size);
     }
-    if let Some(k) = first_late(nodes) {
-        return Err(Refusal::Order(k));
-    }
-    if let Some(k) = first_stray(nodes) {
-        return Err(Refusal::Order(k));
-    }
-    let leaves = match gather(nodes) {
-        Ok(leaves) => leaves,
-        Err(k) => return Err(Refusal::Leaves(k)),
-    };
-    let widths = match measure(nodes) {
-        Ok(widths) => widths,
-        Err(k) => return Err(Refusal::Widths(k)),
-    };
+    check_earlier(nodes).map_err(Refusal::Order)?;
+    check_named(nodes).map_err(Refusal::Order)?;
+    let leaves = gather(nodes).map_err(Refusal::Leaves)?;
+    let widths = measure(nodes).map_err(Refusal::Widths)?;
     Ok(Plan {
-        nodes: copied(nodes),
-        count: nodes.len(),
+        nodes: Few::of(nodes, OPEN),
         widths,
         offsets: offsets_of(nodes, &widths),
         leaves,
@@ -66,15 +44,12 @@ impl Plan {
     pub fn new() -> Plan
         ensures { nodes_of result ≡ first_nodes }
     {
+        let leaf = PlanLeaf::new(0, 0, 1, [Field::Open; 4]);
         Plan {
-            nodes: [OPEN; 16],
-            count: 1,
+            nodes: Few::of(&[OPEN], OPEN),
             widths: [1; 16],
             offsets: [0; 16],
-            leaves: Leaves {
-                places: [0; 6],
-                count: 1,
-            },
+            leaves: Few::of(&[leaf], leaf),
         }
     }
 

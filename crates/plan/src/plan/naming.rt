@@ -1,15 +1,17 @@
 // What a plan says of itself: its width, its leaves, and the rows that a line names there.
-ghost use Rattle.std.specs.Prelude.{◌≡◌, ◌<◌, ◌≤◌, length, slice_index};
+ghost use Rattle.std.specs.Prelude.{◌≡◌, ◌<◌, ◌≤◌, Bool, map, length, take, slice_index};
+ghost use Rattle.std.specs.Fn.{FnReturnsAt};
 ghost use Rattle.std.specs.List.{slice_get};
+ghost use Rattle.store.specs.declared.row.Row.{Row};
 ghost use Rattle.plan.specs.Answers.{plan_width};
 ghost use Rattle.plan.specs.Gathering.{leaves_of};
+ghost use Rattle.plan.specs.Leaves.{opens, named};
 ghost use Rattle.plan.specs.Plans.{nodes_of};
 ghost use Rattle.plan.specs.Truths.{part_at, named_rows};
 
 use super::Plan;
-use crate::leaf::{PlanLeaf, fields_of, named_row};
+use crate::leaf::{PlanLeaf, named_row};
 use crate::line::Line;
-use crate::node::Node;
 use store::Row;
 
 impl Plan {
@@ -18,7 +20,7 @@ impl Plan {
         ensures width { result ≡ plan_width (nodes_of self.now) }
         ensures eight { result ≤ 8 }
     {
-        self.widths[self.count - 1] as usize
+        self.widths[self.nodes.len() - 1] as usize
     }
 
     // How many leaves there are.
@@ -26,36 +28,26 @@ impl Plan {
         ensures count { result ≡ length (leaves_of (nodes_of self.now)) }
         ensures six { result ≤ 6 }
     {
-        self.leaves.count
+        self.leaves.len()
+    }
+
+    // The leaves, in the order of the nodes.
+    pub fn leaf_list(&self) -> &[PlanLeaf]
+        ensures { result.now ≡ leaves_of (nodes_of self.now) }
+    {
+        self.leaves.as_slice()
     }
 
     // The leaf with this number, counted from 0 in the order of the nodes.
     pub fn leaf(&self, number: usize) -> Option<PlanLeaf>
         ensures { result ≡ slice_get (leaves_of (nodes_of self.now)) number }
     {
-        if number >= self.leaves.count {
-            return None;
-        }
-        let place = self.leaves.places[number] as usize;
-        let node = self.nodes[place];
-        match node {
-            Node::Leaf {
-                relation,
-                arity,
-                fields,
-            } => Some(PlanLeaf {
-                node: place,
-                relation,
-                arity,
-                fields: fields_of(arity, fields),
-            }),
-            _ => None,
-        }
+        self.leaf_list().get(number).copied()
     }
 
     // The part of a line that is the line of the node at `k`.
     pub(super) fn part<'a>(&self, k: usize, line: &'a Line) -> &'a [u32]
-        requires { k < self.now.count }
+        requires { k < length (nodes_of self.now) }
         ensures part { result.now ≡ part_at self.now line.now.columns k }
         ensures wide { length result.now ≡ slice_index self.now.widths k }
     {
@@ -63,13 +55,31 @@ impl Plan {
         &line.columns[start..start + self.widths[k] as usize]
     }
 
+    // The row that a line names at a leaf.
+    fn row_at(&self, leaf: &PlanLeaf, line: &Line) -> Row
+        requires within { leaf.now.node < length (nodes_of self.now) }
+        requires wide { slice_index self.now.widths leaf.now.node ≡ opens leaf.now.fields }
+        ensures { result ≡ named leaf.now.relation leaf.now.fields (part_at self.now line.now.columns leaf.now.node) }
+    {
+        named_row(leaf.relation, leaf.fields, self.part(leaf.node, line))
+    }
+
     // The row that a line names at the leaf with this number.
     pub fn named(&self, number: usize, line: &Line) -> Option<Row>
         ensures { result ≡ slice_get (named_rows self.now line.now.columns) number }
     {
-        let Some(leaf) = self.leaf(number) else {
-            return None;
-        };
-        Some(named_row(leaf.relation, leaf.fields, self.part(leaf.node, line)))
+        Some(self.row_at(&self.leaf(number)?, line))
+    }
+
+    // Of each leaf, whether the row passes that a line names there.
+    pub fn at_leaves<F: Fn(&Row) -> bool>(&self, line: &Line, passes: F) -> [bool; 6]
+        requires { F.IsAlwaysCallable passes }
+        ensures { (there : Row → Bool) → ((row : Row) (b : Bool) → FnReturnsAt F.Fn passes row b → b ≡ there row) → take (length (named_rows self.now line.now.columns)) result ≡ map there (named_rows self.now line.now.columns) }
+    {
+        let mut truth = [false; 6];
+        for (number, leaf) in self.leaf_list().iter().enumerate() {
+            truth[number] = passes(&self.row_at(leaf, line));
+        }
+        truth
     }
 }

@@ -1,15 +1,17 @@
 // Whether a line is an answer, from whether the rows are there that it names.
-ghost use Rattle.std.specs.Prelude.{◌≡◌, ◌<◌, true, false, List, slice_index_or};
+ghost use Rattle.std.specs.Prelude.{◌≡◌, ◌<◌, ◌≤◌, false, List, length, slice_index_or};
 ghost use Rattle.store.specs.declared.row.Row.{Row};
 ghost use Rattle.plan.specs.Answers.{plan_width, is_answer};
+ghost use Rattle.plan.specs.Filling.{Spots};
 ghost use Rattle.plan.specs.Nodes.{blank};
 ghost use Rattle.plan.specs.Plans.{nodes_of};
-ghost use Rattle.plan.specs.Truths.{part_at, combined, truth_of, line_fits, plan_truth, Tells};
+ghost use Rattle.plan.specs.Truths.{part_at, combined, truth_of, line_fits, over, plan_truth, Tells};
 
 use super::Plan;
 use crate::choice::is_chosen;
 use crate::line::Line;
 use crate::node::{Node, Op};
+use ordered::Few;
 
 // The truth of a pair, from that of its two nodes.
 fn combine(op: Op, left: bool, right: bool) -> bool
@@ -23,25 +25,27 @@ fn combine(op: Op, left: bool, right: bool) -> bool
 }
 
 impl Plan {
+    // The first column from the plan's width on that is not zero; an answer has none.
+    pub fn past(&self, line: &Line) -> Option<usize>
+        ensures { Spots (over (plan_width (nodes_of self.now)) line.now.columns) (length line.now.columns) result }
+    {
+        (self.width()..8).find(|column| line.columns[*column] != 0)
+    }
+
     // Whether the line is zero from the plan's width on, as every answer is.
     pub fn fits(&self, line: &Line) -> bool
         ensures { result ≡ line_fits (plan_width (nodes_of self.now)) line.now.columns }
     {
-        for column in self.width()..8 {
-            if line.columns[column] != 0 {
-                return false;
-            }
-        }
-        true
+        self.past(line).is_none()
     }
 
     // The truth of the node at `k`, which is no leaf, from that of the nodes before it.
-    fn truth_at(&self, k: usize, line: &Line, truths: &[bool; 16]) -> bool
-        requires { k < self.now.count }
-        ensures { result ≡ truth_of false (part_at self.now line.now.columns k) truths.now (slice_index_or self.now.nodes k blank) }
+    fn truth_at(&self, k: usize, line: &Line, truths: &[bool]) -> bool
+        requires within { k < length (nodes_of self.now) }
+        requires earlier { k ≤ length truths.now }
+        ensures { result ≡ truth_of false (part_at self.now line.now.columns k) truths.now (slice_index_or (nodes_of self.now) k blank) }
     {
-        let node = self.nodes[k];
-        match node {
+        match self.nodes.as_slice()[k] {
             Node::Leaf { .. } => false,
             Node::Choice {
                 node,
@@ -65,17 +69,16 @@ impl Plan {
         if !self.fits(line) {
             return false;
         }
-        let mut truths = [false; 16];
+        let mut truths = Few::<bool, 16>::new(false);
         let mut leaf = 0;
-        for k in 0..self.count {
-            let node = self.nodes[k];
-            if let Node::Leaf { .. } = node {
-                truths[k] = truth[leaf];
+        for (k, node) in self.nodes.as_slice().iter().enumerate() {
+            if let Node::Leaf { .. } = *node {
+                truths.push(truth[leaf]);
                 leaf += 1;
             } else {
-                truths[k] = self.truth_at(k, line, &truths);
+                truths.push(self.truth_at(k, line, truths.as_slice()));
             }
         }
-        truths[self.count - 1]
+        truths.as_slice()[self.nodes.len() - 1]
     }
 }

@@ -1,27 +1,22 @@
-use Rattle.std.proofs.Common.{sym, ◌∙◌, arith}
-use Rattle.std.proofs.lemmas.List.{at_drop_all}
+use Rattle.std.proofs.Common.{rules, ◌≡◌, false, eqb, Some, None, ◌∙◌}
+use Rattle.std.proofs.lemmas.Iterator.{first_from_find, YieldsList-from_slice}
 use Rattle.plan.specs.Gathering.{leaves_of}
 use Rattle.plan.specs.Plans.{nodes_of}
-use Rattle.answers.specs.Asking.{leaves_fail}
-use Rattle.answers.proofs.Leaves.{leaf_fails, leaf_passes, leaf_there}
+use Rattle.plan.specs.declared.leaf.PlanLeaf.{PlanLeaf}
+use Rattle.answers.proofs.Leaves.{Alike, none_fails, one_fails}
 use Rattle.answers.proofs.asking.check_leaves.Goals as goal
-use Rattle.answers.proofs.asking.check_leaves.Goals.{in-Some+else-leaf-arity, in_default}
 
-pub returns-then-leaf-arity : goal.returns-then-leaf-arity
-returns-then-leaf-arity g c =
+pub returns-in-Some : goal.returns-in-Some
+returns-in-Some g c =
+    let arity = (g.S.Source.model c.args.source.now).arity in
     let leaves = leaves_of (nodes_of c.args.plan.now) in
-    sym c.loop-number.invariant ∙ leaf_fails _ leaves c.loop-number.number c.in-Some.leaf c.in-Some.ensures (λ e. omega arith)
+    let (fails, i, inside, here, all) = first_from_find c.find.new.self _ (Some c.in-Some.leaf) (λ (x : PlanLeaf). eqb x.arity (arity x.relation) ≡ false) (Alike arity) c.in-Some.ensures.ran
+    (YieldsList-from_slice leaves (c.iter-leaves.ensures.rest ∙ c.leaf_list.ensures)) (λ x q k. search rules) (λ x q k. search rules) in
+    one_fails arity leaves _ i inside here all fails
 
-pub loop-number-preserved : goal.loop-number-preserved
-loop-number-preserved g c =
+pub returns-in-None : goal.returns-in-None
+returns-in-None g c =
+    let arity = (g.S.Source.model c.args.source.now).arity in
     let leaves = leaves_of (nodes_of c.args.plan.now) in
-    let i = c.loop-number.number in
-    elim c.match-leaf.branch [
-      | in-Some+else-leaf-arity w ↦ leaf_passes _ leaves i w.in-Some.leaf w.in-Some.ensures (omega arith) ∙ c.loop-number.invariant
-      | in_default w ↦ absurd (leaf_there leaves i (omega (arith, c.leaves-number-end.ensures.count)) w.in_default.ensures)
-    ]
-
-pub returns : goal.returns
-returns g c =
-    let leaves = leaves_of (nodes_of c.args.plan.now) in
-    sym c.loop-number.invariant ∙ at_drop_all (leaves_fail (g.S.Source.model c.args.source.now).arity) leaves c.loop-number.number (omega (arith, c.leaves-number-end.ensures.count))
+    none_fails arity leaves (first_from_find c.find.new.self _ None (λ (x : PlanLeaf). eqb x.arity (arity x.relation) ≡ false) (Alike arity) c.in-None.ensures.ran
+    (YieldsList-from_slice leaves (c.iter-leaves.ensures.rest ∙ c.leaf_list.ensures)) (λ x q k. search rules) (λ x q k. search rules))

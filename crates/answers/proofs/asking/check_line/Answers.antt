@@ -1,15 +1,10 @@
-use Rattle.std.proofs.Common.{arith, below_more}
-use Rattle.answers.proofs.Lines.{over_early, over_zero, line_fails, line_passes}
+use Rattle.plan.specs.Answers.{plan_width}
+use Rattle.plan.specs.Plans.{nodes_of}
+use Rattle.answers.proofs.Lines.{line_passes, line_fails}
 use Rattle.answers.proofs.asking.check_line.Goals as goal
 
-pub loop-column-init : goal.loop-column-init
-loop-column-init c = λ j l. over_early _ c.args.line.now.columns j (omega arith)
+pub returns-in-Some : goal.returns-in-Some
+returns-in-Some c = line_fails (plan_width (nodes_of c.args.plan.now)) c.args.line.now.columns c.in-Some.column c.in-Some.ensures
 
-pub returns-then-line-column-ne0 : goal.returns-then-line-column-ne0
-returns-then-line-column-ne0 c = line_fails _ c.args.line.now.columns c.loop-column.column (omega arith) (omega arith) c.if-line-column-ne0.true c.loop-column.invariant
-
-pub loop-column-preserved : goal.loop-column-preserved
-loop-column-preserved c = below_more _ _ c.loop-column.invariant (over_zero _ c.args.line.now.columns c.loop-column.column c.if-line-column-ne0.false)
-
-pub returns : goal.returns
-returns c = line_passes _ c.args.line.now.columns (λ j l. c.loop-column.invariant j (omega arith))
+pub returns-in-None : goal.returns-in-None
+returns-in-None c = line_passes (plan_width (nodes_of c.args.plan.now)) c.args.line.now.columns c.in-None.ensures

@@ -1,55 +1,33 @@
-use Rattle.std.proofs.Common.{◌≡◌, ◌+◌, ◌<◌, false, ◌++◌, length, get_or, take, drop, sym, ap, ◌∙◌, ap₂, append-nil, arith, length-set, below_more}
+use Rattle.std.proofs.Common.{rules, ◌≡◌, true, length, ap₂, sym, ◌∙◌, append-nil, ap, arith, ◌++◌}
 use Rattle.std.proofs.lemmas.List.{at_drop_all}
-use Rattle.plan.specs.Nodes.{blank}
-use Rattle.plan.specs.Gathering.{leaves_from, places_of}
+use Rattle.std.proofs.lemmas.Bool.{or_left, or_right, le-leb, lt-ltb, eq-eqb}
+use Rattle.ordered.specs.Lists.{items_in}
+use Rattle.plan.specs.Gathering.{leaves_from}
 use Rattle.plan.specs.Filling.{poor, poor_at}
-use Rattle.plan.proofs.Firsts.{spots_at, spots_none}
-use Rattle.plan.proofs.Standing.{one_of_six, count_leaf, count_other, stand_leaf, stand_other}
+use Rattle.plan.specs.declared.node.Node.TheVariants.{Leaf}
+use Rattle.plan.proofs.Firsts.{spots_at, first_none}
 use Rattle.plan.proofs.leaves.gather.Goals as goal
-use Rattle.plan.proofs.leaves.gather.Goals.{in-Leaf, in_default}
+use Rattle.plan.proofs.leaves.gather.Goals.{then-len-ge6-via-then-len-ge6, then-len-ge6-via-else-len-ge6+then-arity-eq0, then-len-ge6-via-else-len-ge6+else-arity-eq0+then-arity-gt4, then-len-ge6-via-else-len-ge6+else-arity-eq0+else-arity-gt4+then-open_count-eq0}
 
-pub returns-then-is_poor : goal.returns-then-is_poor
-returns-then-is_poor c =
+pub returns-then-len-ge6 : goal.returns-then-len-ge6
+returns-then-len-ge6 c =
     let nodes = c.args.nodes.now in
-    let k = c.loop-k.k in
-    spots_at (poor_at nodes) (length nodes) k (omega arith) (ap (λ n. poor n (get_or nodes k blank)) (sym c.loop-k.invariant.1) ∙ sym c.if-is_poor.ensures) c.loop-k.invariant.0
-
-pub loop-k-preserved : goal.loop-k-preserved
-loop-k-preserved c =
-    let nodes = c.args.nodes.now in
-    let k = c.loop-k.k in
-    let count = c.loop-k.count in
-    let places = c.loop-k.places in
-    let (none, is, six, long, stand) = c.loop-k.invariant in
-    let l : k < length nodes = omega arith in
-    let more = below_more (λ j. poor_at nodes j ≡ false) k none (ap (λ n. poor n (get_or nodes k blank)) (sym is) ∙ sym c.if-is_poor.ensures) in
-    let rest = places_of (leaves_from (k + 1) (drop (k + 1) nodes)) in
-    elim c.match-node.branch [
-      | in-Leaf w ↦
-          let room : count < 6 = one_of_six count w.in-Leaf.relation w.in-Leaf.arity w.in-Leaf.fields (sym (ap (poor count) w.in-Leaf.is) ∙ sym c.if-is_poor.ensures) in (
-            more,
-            omega (arith, w.count-is, count_leaf nodes k l _ _ _ w.in-Leaf.is),
-            omega (arith, w.count-is),
-            ap length w.places-is ∙ length-set places count _ ∙ long,
-            ap₂ (λ n ps. take n ps ++ rest) w.count-is w.places-is ∙ stand_leaf nodes k l places count _ _ _ (omega arith) w.in-Leaf.is ∙ stand,
-          )
-      | in_default w ↦ (
-        more,
-        omega (arith, w.count-is, count_other nodes k l w.in_default.not-Leaf),
-        omega (arith, w.count-is),
-        ap length w.places-is ∙ long,
-        ap₂ (λ n ps. take n ps ++ rest) w.count-is w.places-is ∙ ap (λ r. take count places ++ places_of r) (stand_other nodes k l w.in_default.not-Leaf) ∙ stand,
-      )
-    ]
+    let l = c.in-Leaf in
+    let count = length (items_in c.loop-k.leaves) in
+    let fails : poor count (Leaf l.relation l.arity l.fields) ≡ true = elim c.then-len-ge6.branch [
+      | then-len-ge6-via-then-len-ge6 w ↦ search (rules, or_left, or_right, le-leb, lt-ltb, eq-eqb)
+      | then-len-ge6-via-else-len-ge6+then-arity-eq0 w ↦ search (rules, or_left, or_right, le-leb, lt-ltb, eq-eqb)
+      | then-len-ge6-via-else-len-ge6+else-arity-eq0+then-arity-gt4 w ↦ search (rules, or_left, or_right, le-leb, lt-ltb, eq-eqb)
+      | then-len-ge6-via-else-len-ge6+else-arity-eq0+else-arity-gt4+then-open_count-eq0 w ↦ search (rules, or_left, or_right, le-leb, lt-ltb, eq-eqb)
+    ] in
+    spots_at (poor_at nodes) (length nodes) c.loop-k.k (omega arith) (ap₂ poor (sym c.loop-k.invariant.1) l.is ∙ fails) c.loop-k.invariant.0
 
 pub returns : goal.returns
 returns c =
     let nodes = c.args.nodes.now in
     let k = c.loop-k.k in
-    let (none, is, six, long, stand) = c.loop-k.invariant in
+    let (none, _, stand) = c.loop-k.invariant in
     record {
-      none = spots_none (poor_at nodes) (length nodes) k (omega arith) none;
-      long = long;
-      six = six;
-      stand = sym (append-nil _) ∙ ap (λ r. take c.loop-k.count c.loop-k.places ++ places_of r) (sym (at_drop_all (leaves_from k) nodes k (omega arith))) ∙ stand;
+      none = first_none (poor_at nodes) (length nodes) (λ j h. none j (omega arith));
+      stand = sym (append-nil _) ∙ ap (λ r. items_in c.loop-k.leaves ++ r) (sym (at_drop_all (leaves_from k) nodes k (omega arith))) ∙ stand;
     }

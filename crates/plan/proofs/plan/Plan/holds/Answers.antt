@@ -1,32 +1,44 @@
-use Rattle.std.proofs.Common.{◌≡◌, ℕ, ◌+◌, ◌-◌, ◌<◌, Bool, false, ◌&&◌, List, length, get_or, sym, ap, ◌∙◌, subst, arith, length-set}
+use Rattle.std.proofs.Common.{◌≡◌, ℕ, ◌-◌, ◌<◌, Bool, false, ◌&&◌, List, length, get_or, sym, ap, ◌∙◌, subst, ap₂, arith, take, take_all, length-take-le}
 use Rattle.std.proofs.lemmas.Bool.{and_left}
 use Rattle.store.specs.declared.row.Row.{Row}
+use Rattle.ordered.specs.Lists.{items_in}
 use Rattle.plan.specs.Answers.{plan_width, is_answer}
 use Rattle.plan.specs.Filling.{leaves_before}
 use Rattle.plan.specs.Nodes.{blank}
 use Rattle.plan.specs.Plans.{nodes_of}
 use Rattle.plan.specs.Truths.{part_at, truth_of, truths, line_fits, plan_truth, Tells}
+use Rattle.plan.specs.declared.node.Node.TheVariants.{Leaf}
 use Rattle.plan.specs.declared.plan.Plan.{Plan}
 use Rattle.plan.proofs.Answering.{by_names}
-use Rattle.plan.proofs.Evaluating.{own_idle, truth_by}
-use Rattle.plan.proofs.PlanNodes.{nodes_long, node_in}
-use Rattle.plan.proofs.PlanLeaves.{leaf_number}
+use Rattle.plan.proofs.Evaluating.{own_idle, truths_more, truths_long}
+use Rattle.plan.proofs.PlanLeaves.{leaf_number, leaves_few}
 use Rattle.plan.proofs.Standing.{NoLeaf, count_leaf, count_other}
-use Rattle.plan.proofs.Writes.{one_more}
 use Rattle.plan.proofs.plan.Plan.holds.Goals as goal
-use Rattle.plan.proofs.plan.Plan.holds.Goals.{in-Leaf, in_default}
+use Rattle.plan.proofs.plan.Plan.holds.Goals.{In-Leaf, After-len, in-Leaf, in_default}
+
+leaf : (c : In-Leaf) → get_or (nodes_of c.args.self.now) c.loop-k.k blank ≡ Leaf c.in-Leaf.relation c.in-Leaf.arity c.in-Leaf.fields
+leaf c = ap (λ ns. get_or ns c.loop-k.k blank) (sym c.as_slice-node-items.ensures.items) ∙ c.in-Leaf.is
+
+-- at a leaf, one of the six is next
+next : (c : In-Leaf) → c.loop-k.leaf < 6
+next c =
+    let plan = c.args.self.now in
+    let (few, _) = leaf_number plan c.loop-k.k (omega (arith, ap length c.as_slice-node-items.ensures.items)) _ _ _ (leaf c) in
+    omega (arith, leaves_few plan)
 
 pub bounds-truth-leaf : goal.bounds-truth-leaf
-bounds-truth-leaf c =
-    let plan = c.args.self.now in
-    let (few, _) = leaf_number plan c.loop-k.k c.loop-k-test.true _ _ _ c.in-Leaf.is in
-    omega (arith, plan.six)
+bounds-truth-leaf c = next (goal.at.bounds-truth-leaf c).In-Leaf
 
 pub overflow_add-leaf : goal.overflow_add-leaf
-overflow_add-leaf c =
+overflow_add-leaf c = let l = next (goal.at.overflow_add-leaf c).In-Leaf in omega arith
+
+pub truth_at-requires : goal.truth_at-requires
+truth_at-requires c =
     let plan = c.args.self.now in
-    let (few, _) = leaf_number plan c.loop-k.k c.loop-k-test.true _ _ _ c.in-Leaf.is in
-    omega (arith, plan.six)
+    let all = truths plan c.args.line.now.columns c.args.truth.now in
+    let within : c.loop-k.k < length (nodes_of plan) = omega (arith, ap length c.as_slice-node-items.ensures.items) in
+    let long : length (take c.loop-k.k all) ≡ c.loop-k.k = length-take-le c.loop-k.k all (omega (arith, truths_long plan c.args.line.now.columns c.args.truth.now)) in
+    record { within = within; earlier = omega (arith, ap length c.as_slice.ensures.items, ap length c.loop-k.invariant.1) }
 
 pub loop-k-preserved : goal.loop-k-preserved
 loop-k-preserved c =
@@ -35,28 +47,21 @@ loop-k-preserved c =
     let columns = c.args.line.now.columns in
     let truth = c.args.truth.now in
     let k = c.loop-k.k in
-    let bs = c.loop-k.truths in
-    let within = c.loop-k-test.true in
-    let (leaf, long, same) = c.loop-k.invariant in
-    let l : k < length nodes = omega (arith, nodes_long plan) in
-    let room : k < length bs = omega arith in
+    let items = c.as_slice-node-items.ensures.items in
+    let l : k < length nodes = omega (arith, ap length items) in
+    let (count, front) = c.loop-k.invariant in
     let own = get_or truth (leaves_before nodes k) false in
-    let here = truth_by plan columns truth k within bs same in
-    let Says : List Bool → Type 0 = λ ts. (j : ℕ) → j < k + 1 → get_or ts j false ≡ get_or (truths plan columns truth) j false in
+    let bs = items_in c.loop-k.truths in
     elim c.match-node.branch [
       | in-Leaf w ↦
-          let is = node_in plan k within ∙ w.in-Leaf.is in (
+          let is = ap (λ ns. get_or ns k blank) (sym items) ∙ w.in-Leaf.is in (
             omega (arith, w.leaf-is, count_leaf nodes k l _ _ _ is),
-            ap length w.truths-is ∙ length-set bs k _ ∙ long,
-            subst Says (sym w.truths-is) (one_more bs k _ false room (λ j b. b ≡ get_or (truths plan columns truth) j false) same
-                (ap (λ n. get_or truth n false) leaf ∙ sym (ap (truth_of own (part_at plan columns k) bs) w.in-Leaf.is) ∙ here)),
+            ap items_in w.truths-is ∙ w.push.ensures ∙ truths_more plan columns truth k l bs _ front (ap (λ n. get_or truth n false) count ∙ sym (ap (truth_of own (part_at plan columns k) bs) is)),
           )
       | in_default w ↦
-          let other = subst NoLeaf (sym (node_in plan k within)) w.in_default.not-Leaf in (
+          let other = subst NoLeaf (ap (λ ns. get_or ns k blank) items) w.in_default.not-Leaf in (
             omega (arith, w.leaf-is, count_other nodes k l other),
-            ap length w.truths-is ∙ length-set bs k _ ∙ long,
-            subst Says (sym w.truths-is) (one_more bs k _ false room (λ j b. b ≡ get_or (truths plan columns truth) j false) same
-                (w.truth_at.ensures ∙ own_idle own (part_at plan columns k) bs (get_or plan.nodes k blank) w.in_default.not-Leaf ∙ here)),
+            ap items_in w.truths-is ∙ w.push-in_default.ensures ∙ truths_more plan columns truth k l bs _ front (w.truth_at.ensures ∙ own_idle own (part_at plan columns k) _ (get_or nodes k blank) other ∙ ap (λ ts. truth_of own (part_at plan columns k) ts (get_or nodes k blank)) w.as_slice.ensures.items),
           )
     ]
 
@@ -72,13 +77,22 @@ returns-then-not-fits c =
     let told : false ≡ plan_truth plan columns truth = sym (and_left (line_fits (plan_width (nodes_of plan)) columns) _ (sym c.if-not-fits.ensures)) in
     record { told = told; means = says plan columns truth false told }
 
+-- at the end there is a truth for each node
+ended : (c : After-len) → c.as_slice-2.result.now ≡ truths c.args.self.now c.args.line.now.columns c.args.truth.now
+ended c =
+    let plan = c.args.self.now in
+    let all = truths plan c.args.line.now.columns c.args.truth.now in
+    c.as_slice-2.ensures.items ∙ c.loop-k.invariant.1 ∙ take_all c.loop-k.k all (omega (arith, truths_long plan c.args.line.now.columns c.args.truth.now, ap length c.as_slice-node-items.ensures.items))
+
+pub bounds-as_slice-len : goal.bounds-as_slice-len
+bounds-as_slice-len c = omega (arith, ap length (ended (goal.at.bounds-as_slice-len c).After-len), truths_long c.args.self.now c.args.line.now.columns c.args.truth.now, c.args.self.now.some)
+
 pub returns : goal.returns
 returns c =
     let plan = c.args.self.now in
     let columns = c.args.line.now.columns in
     let truth = c.args.truth.now in
-    let last : plan.count - 1 ≡ length (nodes_of plan) - 1 = omega (arith, nodes_long plan) in
-    let r = get_or c.loop-k.truths (plan.count - 1) false in
+    let r = get_or c.as_slice-2.result.now (c.len.result - 1) false in
     let told : r ≡ plan_truth plan columns truth =
-    c.loop-k.invariant.2 (plan.count - 1) (omega (arith, plan.some)) ∙ ap (λ k. get_or (truths plan columns truth) k false) last ∙ ap (λ fits. fits && get_or (truths plan columns truth) (length (nodes_of plan) - 1) false) c.if-not-fits.ensures in
+    ap₂ (λ ts n. get_or ts (n - 1) false) (ended (goal.at.returns c).After-len) c.len.ensures.length ∙ ap (λ fits. fits && get_or (truths plan columns truth) (length (nodes_of plan) - 1) false) c.if-not-fits.ensures in
     record { told = told; means = says plan columns truth r told }

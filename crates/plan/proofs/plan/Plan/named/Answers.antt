@@ -1,4 +1,4 @@
-use Rattle.std.proofs.Common.{Some, sym, ap, ◌∙◌, arith}
+use Rattle.std.proofs.Common.{Some, sym, ap, ◌∙◌}
 use Rattle.plan.specs.Gathering.{leaves_of}
 use Rattle.plan.specs.Leaves.{named}
 use Rattle.plan.specs.Plans.{nodes_of}
@@ -9,22 +9,18 @@ use Rattle.plan.proofs.Numbering.{nth_map_some, nth_map_none}
 use Rattle.plan.proofs.PlanLeaves.{leaf_read, leaf_width}
 use Rattle.plan.proofs.plan.Plan.named.Goals as goal
 
-pub returns-in_default : goal.returns-in_default
-returns-in_default c = sym (nth_map_none _ (leaves_of (nodes_of c.args.self.now)) c.args.number (sym c.in_default.ensures))
+pub returns-in_err-leaf : goal.returns-in_err-leaf
+returns-in_err-leaf c = c.from_residual.ensures ∙ sym (nth_map_none _ (leaves_of (nodes_of c.args.self.now)) c.args.number (sym c.in_err-leaf.ensures))
 
-pub part-requires : goal.part-requires
-part-requires c = omega (arith, (leaf_read c.args.self.now c.args.number c.in-Some.leaf (sym c.in-Some.ensures)).1.within, c.args.self.now.some)
+pub row_at-requires-clause-within : goal.row_at-requires-clause-within
+row_at-requires-clause-within c = (leaf_read c.args.self.now c.args.number _ (sym c.in_ok-leaf.ensures)).within
 
-pub named_row-requires : goal.named_row-requires
-named_row-requires c =
-    let plan = c.args.self.now in
-    let leaf = c.in-Some.leaf in
-    c.part.ensures.wide ∙ leaf_width plan leaf (leaf_read plan c.args.number leaf (sym c.in-Some.ensures)).1
+pub row_at-requires-clause-wide : goal.row_at-requires-clause-wide
+row_at-requires-clause-wide c = leaf_width c.args.self.now c.in_ok-leaf.field-0 (leaf_read c.args.self.now c.args.number _ (sym c.in_ok-leaf.ensures))
 
 pub returns : goal.returns
 returns c =
     let plan = c.args.self.now in
     let columns = c.args.line.now.columns in
-    let leaf = c.in-Some.leaf in
     let row_of : PlanLeaf → Row = λ leaf. named leaf.relation leaf.fields (part_at plan columns leaf.node) in
-    ap Some (c.named_row.ensures ∙ ap (named leaf.relation leaf.fields) c.part.ensures.part) ∙ sym (nth_map_some row_of (leaves_of (nodes_of plan)) c.args.number leaf (sym c.in-Some.ensures))
+    ap Some c.row_at.ensures ∙ sym (nth_map_some row_of (leaves_of (nodes_of plan)) c.args.number _ (sym c.in_ok-leaf.ensures))

@@ -1,50 +1,63 @@
-use Rattle.std.proofs.Common.{◌-◌, length, sym, ap, ◌∙◌, subst, arith}
-use Rattle.plan.specs.Filling.{Earlier, late_at, stray_at, unfit_at}
-use Rattle.plan.specs.Gathering.{leaves_of, places_of}
-use Rattle.plan.specs.Parts.{Measured, Offsets}
+use Rattle.std.proofs.Common.{◌≡◌, ◌-◌, ◌<◌, length, sym, ap, ◌∙◌, subst, rules, arith}
+use Rattle.plan.specs.Filling.{Earlier, late_at, stray_at, unfit_at, first}
+use Rattle.plan.specs.Gathering.{leaves_of, Gathered}
+use Rattle.plan.specs.Parts.{Measured, Offsets, Roomy}
 use Rattle.plan.proofs.Asked.{granted}
 use Rattle.plan.proofs.Firsts.{before_first, first_none}
+use Rattle.plan.proofs.Tried.{went_on}
 use Rattle.plan.proofs.plan.fill.plan_of.Goals as goal
-use Rattle.plan.proofs.plan.fill.plan_of.Goals.{In-Ok}
+use Rattle.plan.proofs.plan.fill.plan_of.Goals.{In_ok-map_err, In_ok-map_err-2, In_ok-leaves, In_ok-widths}
 
-early : (c : In-Ok) → Earlier c.args.nodes.now
-early c = let nodes = c.args.nodes.now in before_first (late_at nodes) (length nodes) (length nodes) c.in_default.ensures
+none_late : (c : In_ok-map_err) → first (late_at c.args.nodes.now) (length c.args.nodes.now) ≡ length c.args.nodes.now
+none_late c = went_on (λ _. first (late_at c.args.nodes.now) (length c.args.nodes.now) ≡ length c.args.nodes.now) _ _ c.check_earlier.result c.map_err.result _ c.in_ok-map_err.was c.map_err.ensures.cases c.map_err.ensures.variant c.check_earlier.ensures
 
-pub measure-requires : goal.measure-requires
-measure-requires c = record { few = omega arith; early = early c }
+none_stray : (c : In_ok-map_err-2) → first (stray_at c.args.nodes.now) (length c.args.nodes.now - 1) ≡ length c.args.nodes.now - 1
+none_stray c = went_on (λ _. first (stray_at c.args.nodes.now) (length c.args.nodes.now - 1) ≡ length c.args.nodes.now - 1) _ _ c.check_named.result c.map_err-2.result _ c.in_ok-map_err-2.was c.map_err-2.ensures.cases c.map_err-2.ensures.variant c.check_named.ensures
+
+gathered : (c : In_ok-leaves) → Gathered c.args.nodes.now c.in_ok-leaves.leaves
+gathered c = went_on (Gathered c.args.nodes.now) _ _ c.gather.result c.map_err-3.result _ c.in_ok-leaves.was c.map_err-3.ensures.cases c.map_err-3.ensures.variant c.gather.ensures
+
+measured : (c : In_ok-widths) → Measured c.args.nodes.now (length c.args.nodes.now) c.in_ok-widths.widths × (length c.in_ok-widths.widths ≡ 16)
+measured c = went_on (λ widths. Measured c.args.nodes.now (length c.args.nodes.now) widths × (length widths ≡ 16)) _ _ c.measure.result c.map_err-4.result _ c.in_ok-widths.was c.map_err-4.ensures.cases c.map_err-4.ensures.variant c.measure.ensures
+
+early : (c : In_ok-map_err) → Earlier c.args.nodes.now
+early c = let nodes = c.args.nodes.now in before_first (late_at nodes) (length nodes) (length nodes) (none_late c)
+
+pub measure-requires-clause-early : goal.measure-requires-clause-early
+measure-requires-clause-early c = early (goal.at.measure-requires-clause-early c).In_ok-map_err
 
 pub offsets_of-requires : goal.offsets_of-requires
 offsets_of-requires c =
     let nodes = c.args.nodes.now in
+    let at = goal.at.offsets_of-requires c in
     record {
       few = omega arith;
-      early = early (goal.at.offsets_of-requires c).In-Ok;
-      once = before_first (stray_at nodes) (length nodes - 1) (length nodes - 1) c.in_default-first_stray.ensures;
-      wide = c.in-Ok-measure.ensures.0;
+      early = early at.In_ok-map_err;
+      once = before_first (stray_at nodes) (length nodes - 1) (length nodes - 1) (none_stray at.In_ok-map_err-2);
+      wide = (measured at.In_ok-widths).0;
     }
 
 pub invariant_of-result : goal.invariant_of-result
 invariant_of-result c =
     let nodes = c.args.nodes.now in
-    let same = sym c.copied.ensures.same in
-    let widths = c.in-Ok-measure.widths in
-    let leaves = c.in-Ok.ensures in
+    let at = goal.at.invariant_of-result c in
+    let same = sym c.of.ensures in
+    let widths = c.in_ok-widths.widths in
     record {
-      long = (c.copied.ensures.long, c.in-Ok-measure.ensures.1, c.offsets_of.ensures.long, leaves.long);
-      some = omega arith;
-      few = omega arith;
-      six = leaves.six;
-      early = subst Earlier same (early (goal.at.invariant_of-result c).In-Ok);
-      wide = subst (λ ns. Measured ns (length nodes) widths) same c.in-Ok-measure.ensures.0;
+      long = ((measured at.In_ok-widths).1, c.offsets_of.ensures.long);
+      some = let some : 0 < length nodes = search rules in omega (arith, ap length c.of.ensures);
+      early = subst Earlier same (early at.In_ok-map_err);
+      wide = subst (λ ns. Measured ns (length ns) widths) same (measured at.In_ok-widths).0;
       starts = subst (λ ns. Offsets ns widths c.offsets_of.result) same c.offsets_of.ensures.starts;
-      room = c.offsets_of.ensures.room;
-      stand = leaves.stand ∙ ap (λ ns. places_of (leaves_of ns)) same;
+      room = subst (λ ns. Roomy (length ns) widths c.offsets_of.result) same c.offsets_of.ensures.room;
+      stand = (gathered at.In_ok-leaves).stand ∙ ap leaves_of same;
     }
 
 pub returns : goal.returns
 returns c =
-    let nodes = c.args.nodes.now in (
-      granted nodes (omega arith) (omega arith) c.in_default.ensures c.in_default-first_stray.ensures c.in-Ok.ensures.none
-          (first_none (unfit_at nodes) (length nodes) (λ j h. (c.in-Ok-measure.ensures.0 j h).0)),
-      c.copied.ensures.same,
+    let nodes = c.args.nodes.now in
+    let at = goal.at.returns c in (
+      granted nodes (search rules) (omega arith) (none_late at.In_ok-map_err) (none_stray at.In_ok-map_err-2) (gathered at.In_ok-leaves).none
+          (first_none (unfit_at nodes) (length nodes) (λ j h. ((measured at.In_ok-widths).0 j h).0)),
+      c.of.ensures,
     )
