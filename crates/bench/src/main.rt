@@ -32,8 +32,5 @@ fn main(rt: HostRuntime) -> Result<(), Trouble> {
 fn asked_to_run(rt: &HostRuntime) -> io::Result<bool> {
     let mut words = env::args(rt)?;
     let _ = words.next();
-    match words.next() {
-        Some(word) => Ok(word.as_str() == "run"),
-        None => Ok(false),
-    }
+    Ok(words.next().is_some_and(|word| word.as_str() == "run"))
 }

@@ -4,6 +4,7 @@ ghost use Rattle.fault.specs.Notices.{notice};
 
 use crate::layer::{Layer, layer_of};
 
+// A number, since this is what a person is told: inside the engine a refusal is an enum of its layer.
 // The position is the first atom, comparison, node, column or record that fails, where the
 // refusal is about one of these, and otherwise 0.
 #[derive(Clone, Copy)]

@@ -18,8 +18,8 @@ pub fn admit(arity: u8, row: &Row, held: Option<usize>) -> Result<(), Refusal>
     if !zero_from(arity, &row.columns) {
         return Err(Refusal::Unfit);
     }
-    match held {
-        Some(_) => Err(Refusal::AlreadyHeld),
-        None => Ok(()),
+    if held.is_some() {
+        return Err(Refusal::AlreadyHeld);
     }
+    Ok(())
 }
