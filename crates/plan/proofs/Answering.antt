@@ -11,7 +11,7 @@ use Rattle.plan.specs.Gathering.{leaves_of}
 use Rattle.plan.specs.Laws.{ByNames}
 use Rattle.plan.specs.Leaves.{fields_of, named}
 use Rattle.plan.specs.Nodes.{grown, blank}
-use Rattle.plan.specs.Plans.{nodes_of}
+use Rattle.plan.specs.Plans.{nodes_of, widths_of, starts_of}
 use Rattle.plan.specs.Truths.{part_at, named_rows, combined, truth_of, truths, line_fits, Tells}
 use Rattle.plan.specs.declared.leaf.PlanLeaf.{PlanLeaf}
 use Rattle.plan.specs.declared.node.Op.{Op}
@@ -46,7 +46,7 @@ module _ (plan : Plan) (rows : List Row) where
   Lines k = lines_at rows (nodes_of plan) k
 
   abbrev Wide : ℕ → ℕ
-  Wide k = get_or plan.widths k 0
+  Wide k = get_or (widths_of plan) k 0
 
   pub lines_at_lem : (k : ℕ) → k < length (nodes_of plan) → Lines k ≡ lines_of rows (grown (lines_of rows) [] (nodes_of plan)) (get_or (nodes_of plan) k blank)
   lines_at_lem k h =
@@ -97,12 +97,12 @@ module _ (plan : Plan) (rows : List Row) where
         has_leaf relation (fields_of arity fields) rows (Part k) (part_long plan k h columns eight ∙ leaf_in plan k h relation arity fields e) ∙ told k h relation arity fields e
     claim_node k h ih (Choice node left sign right) e =
         let (l, same, _) = choice_in plan k h node left sign right e in
-        let starts : get_or plan.offsets node 0 ≡ get_or plan.offsets k 0 = passes_at plan k h (Choice node left sign right) e in
+        let starts : get_or (starts_of plan) node 0 ≡ get_or (starts_of plan) k 0 = passes_at plan k h (Choice node left sign right) e in
         let part : Part k ≡ Part node = ap₂ (λ w o. take w (drop o columns)) same (sym starts) in
         has_kept (chosen left sign right) (Lines node) (Part k) ∙ ap (λ b. b && chosen left sign right (Part k)) (ap (has (Lines node)) part ∙ ih node l)
     claim_node k h ih (Pair op left right) e =
         let (i, j, sum, like) = pair_in plan k h op left right e in
-        let o : ℕ = get_or plan.offsets k 0 in
+        let o : ℕ = get_or (starts_of plan) k 0 in
         let (a, b) = passes_at plan k h (Pair op left right) e in
         ap (λ w. has (lines_by op (Lines left) (Lines right)) (take w (drop o columns))) sum ∙
         has_by op (Lines left) (Lines right) (Wide left) (Wide right) o columns (long_lines left (omega arith)) like ∙
@@ -121,7 +121,7 @@ by_names plan columns rows truth tells =
     let last : ℕ = length (nodes_of plan) - 1 in
     let h : last < length (nodes_of plan) = omega (arith, plan.some) in
     let (_, wide, small) = plan.wide last h in
-    let w : ℕ = get_or plan.widths last 0 in
+    let w : ℕ = get_or (widths_of plan) last 0 in
     let answer = has (lines_at rows (nodes_of plan) last) in
     has_padded (lines_at rows (nodes_of plan) last) w columns small (long_lines plan rows last h) ∙
     ap (λ v. line_fits v columns && answer (take w columns)) wide ∙

@@ -9,7 +9,7 @@ use Rattle.plan.specs.Filling.{alike}
 use Rattle.plan.specs.Laws.{AllCandidates}
 use Rattle.plan.specs.Leaves.{fields_of}
 use Rattle.plan.specs.Nodes.{grown, blank}
-use Rattle.plan.specs.Plans.{nodes_of}
+use Rattle.plan.specs.Plans.{nodes_of, widths_of}
 use Rattle.plan.specs.Streams.{candidates_by, candidates_of, candidates_at}
 use Rattle.plan.specs.declared.node.Op.{Op}
 use Rattle.plan.specs.declared.node.Op.TheVariants.{Product, Union, Difference}
@@ -37,7 +37,7 @@ module _ (plan : Plan) (rows : List Row) where
   Cands k = candidates_at rows (nodes_of plan) k
 
   abbrev Wide : ℕ → ℕ
-  Wide k = get_or plan.widths k 0
+  Wide k = get_or (widths_of plan) k 0
 
   pub candidates_at_lem : (k : ℕ) → k < length (nodes_of plan) → Cands k ≡ candidates_of rows (grown (candidates_of rows) [] (nodes_of plan)) (get_or (nodes_of plan) k blank)
   candidates_at_lem k h =

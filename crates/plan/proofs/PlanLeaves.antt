@@ -8,7 +8,7 @@ use Rattle.plan.specs.Filling.{leaves_before}
 use Rattle.plan.specs.Gathering.{leaves_of}
 use Rattle.plan.specs.Leaves.{opens, named}
 use Rattle.plan.specs.Nodes.{blank, leaf_count}
-use Rattle.plan.specs.Plans.{nodes_of}
+use Rattle.plan.specs.Plans.{nodes_of, widths_of}
 use Rattle.plan.specs.Truths.{part_at, named_rows}
 use Rattle.plan.specs.declared.leaf.PlanLeaf.{PlanLeaf}
 use Rattle.plan.specs.declared.node.Field.{Field}
@@ -42,13 +42,13 @@ module _ (plan : Plan) where
       let same : get_or (nodes_of plan) s.at blank ≡ get_or (nodes_of plan) leaf.node blank = ap (λ k. get_or (nodes_of plan) k blank) (sym at) in
       record { within = omega (arith, s.within); one = sym (ap leaf_count same) ∙ s.one; is = s.is ∙ ap (λ k. leaf_of k (get_or (nodes_of plan) s.at blank)) (zero-add s.at ∙ sym at) ∙ ap (leaf_of leaf.node) same }
 
-  width_by : (k : ℕ) → k < length (nodes_of plan) → (n : Node) → get_or (nodes_of plan) k blank ≡ n → leaf_count n ≡ 1 → get_or plan.widths k 0 ≡ opens (leaf_of k n).fields
+  width_by : (k : ℕ) → k < length (nodes_of plan) → (n : Node) → get_or (nodes_of plan) k blank ≡ n → leaf_count n ≡ 1 → get_or (widths_of plan) k 0 ≡ opens (leaf_of k n).fields
   width_by k h (Leaf relation arity fields) e one = leaf_in plan k h relation arity fields e
   width_by k h (Choice node left sign right) e one = absurd (omega arith)
   width_by k h (Pair op left right) e one = absurd (omega arith)
 
   -- a leaf's part of a line has as many numbers as the leaf has open columns
-  pub leaf_width : (leaf : PlanLeaf) → LeafIn plan leaf → get_or plan.widths leaf.node 0 ≡ opens leaf.fields
+  pub leaf_width : (leaf : PlanLeaf) → LeafIn plan leaf → get_or (widths_of plan) leaf.node 0 ≡ opens leaf.fields
   leaf_width leaf l = width_by leaf.node l.within (get_or (nodes_of plan) leaf.node blank) refl l.one ∙ ap (λ x. opens x.fields) (sym l.is)
 
   -- a leaf that stands in the list

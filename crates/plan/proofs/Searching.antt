@@ -7,7 +7,7 @@ use Rattle.store.specs.declared.sign.Sign.{Sign}
 use Rattle.plan.specs.Answers.{chosen, lines_by}
 use Rattle.plan.specs.Leaves.{fields_of, leaf_lines}
 use Rattle.plan.specs.Nodes.{grown, blank}
-use Rattle.plan.specs.Plans.{nodes_of}
+use Rattle.plan.specs.Plans.{nodes_of, widths_of}
 use Rattle.plan.specs.Seeking.{Padded, Least, lesser, on_left, on_right}
 use Rattle.plan.specs.Streams.{before, candidates_of, candidates_at}
 use Rattle.plan.specs.declared.node.Field.{Field}
@@ -33,7 +33,7 @@ module _ (plan : Plan) (rows : List Row) where
   Cands k = candidates_at rows (nodes_of plan) k
 
   abbrev Wide : ℕ → ℕ
-  Wide k = get_or plan.widths k 0
+  Wide k = get_or (widths_of plan) k 0
 
   -- what a search at the node k finds
   abbrev pub Finds : ℕ → List ℕ → Bound (List ℕ) → Option (List ℕ) → Type 0

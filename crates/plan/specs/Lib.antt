@@ -10,3 +10,4 @@ pub mod Truths
 pub mod Streams
 pub mod Seeking
 pub mod Laws
+pub mod Steps

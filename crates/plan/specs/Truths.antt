@@ -7,7 +7,7 @@ use Rattle.plan.specs.Filling.{leaves_before}
 use Rattle.plan.specs.Gathering.{leaves_of}
 use Rattle.plan.specs.Leaves.{named}
 use Rattle.plan.specs.Nodes.{grown}
-use Rattle.plan.specs.Plans.{nodes_of}
+use Rattle.plan.specs.Plans.{nodes_of, widths_of, starts_of}
 use Rattle.plan.specs.declared.node.Op.{Op}
 use Rattle.plan.specs.declared.node.Op.TheVariants.{Product, Union, Difference}
 use Rattle.plan.specs.declared.node.Node.{Node}
@@ -16,7 +16,7 @@ use Rattle.plan.specs.declared.plan.Plan.{Plan}
 
 -- the part of a plan's line that is the line of the node at k
 abbrev pub part_at : Plan → List ℕ → ℕ → List ℕ
-part_at plan columns k = take (slice_index plan.widths k) (drop (slice_index plan.offsets k) columns)
+part_at plan columns k = take (slice_index (widths_of plan) k) (drop (slice_index (starts_of plan) k) columns)
 
 -- the rows that a line names, one at each leaf
 abbrev pub named_rows : Plan → List ℕ → List Row

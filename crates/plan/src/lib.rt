@@ -17,6 +17,7 @@ mod order;
 mod plan;
 mod refusal;
 mod seek;
+mod step;
 mod widths;
 
 pub use laws::{by_names, first_fault};

@@ -4,9 +4,10 @@ ghost use Rattle.ordered.specs.Lists.{items_in};
 ghost use Rattle.plan.specs.Filling.{Earlier};
 ghost use Rattle.plan.specs.Gathering.{leaves_of};
 ghost use Rattle.plan.specs.Parts.{Measured, Offsets, Roomy};
+ghost use Rattle.plan.specs.Steps.{nodes_in, widths_in, starts_in};
 
 use crate::leaf::PlanLeaf;
-use crate::node::Node;
+use crate::step::Step;
 use ordered::Few;
 
 pub mod fill;
@@ -15,16 +16,12 @@ pub mod truth;
 
 #[derive(Clone, Copy)]
 pub struct Plan {
-    nodes: Few<Node, 16>,
-    // how wide the line of each node is, and where in the plan's line it begins
-    widths: [u8; 16],
-    offsets: [u8; 16],
+    steps: Few<Step, 16>,
     leaves: Few<PlanLeaf, 6>,
-    ghost long: { (length widths ≡ 16) × (length offsets ≡ 16) },
-    ghost some: { 0 < length (items_in nodes) },
-    ghost early: { Earlier (items_in nodes) },
-    ghost wide: { Measured (items_in nodes) (length (items_in nodes)) widths },
-    ghost starts: { Offsets (items_in nodes) widths offsets },
-    ghost room: { Roomy (length (items_in nodes)) widths offsets },
-    ghost stand: { items_in leaves ≡ leaves_of (items_in nodes) },
+    ghost some: { 0 < length (nodes_in (items_in steps)) },
+    ghost early: { Earlier (nodes_in (items_in steps)) },
+    ghost wide: { Measured (nodes_in (items_in steps)) (length (nodes_in (items_in steps))) (widths_in (items_in steps)) },
+    ghost starts: { Offsets (nodes_in (items_in steps)) (widths_in (items_in steps)) (starts_in (items_in steps)) },
+    ghost room: { Roomy (length (nodes_in (items_in steps))) (widths_in (items_in steps)) (starts_in (items_in steps)) },
+    ghost stand: { items_in leaves ≡ leaves_of (nodes_in (items_in steps)) },
 }

@@ -10,15 +10,9 @@ use crate::node::{Field, Node};
 use crate::offsets::offsets_of;
 use crate::order::{check_earlier, check_named};
 use crate::refusal::Refusal;
+use crate::step::{ONLY, steps_of};
 use crate::widths::measure;
 use ordered::Few;
-
-// An open leaf of relation 0, arity 1.
-const OPEN: Node = Node::Leaf {
-    relation: 0,
-    arity: 1,
-    fields: [Field::Open; 4],
-};
 
 // The plan of these nodes, or why they make none.
 fn plan_of(nodes: &[Node]) -> Result<Plan, Refusal>
@@ -31,10 +25,9 @@ fn plan_of(nodes: &[Node]) -> Result<Plan, Refusal>
     check_named(nodes).map_err(Refusal::Order)?;
     let leaves = gather(nodes).map_err(Refusal::Leaves)?;
     let widths = measure(nodes).map_err(Refusal::Widths)?;
+    let starts = offsets_of(nodes, &widths);
     Ok(Plan {
-        nodes: Few::of(nodes, OPEN),
-        widths,
-        offsets: offsets_of(nodes, &widths),
+        steps: steps_of(nodes, &widths, &starts),
         leaves,
     })
 }
@@ -46,9 +39,7 @@ impl Plan {
     {
         let leaf = PlanLeaf::new(0, 0, 1, [Field::Open; 4]);
         Plan {
-            nodes: Few::of(&[OPEN], OPEN),
-            widths: [1; 16],
-            offsets: [0; 16],
+            steps: Few::of(&[ONLY], ONLY),
             leaves: Few::of(&[leaf], leaf),
         }
     }

@@ -6,7 +6,7 @@ ghost use Rattle.store.specs.declared.row.Row.{Row};
 ghost use Rattle.plan.specs.Answers.{plan_width};
 ghost use Rattle.plan.specs.Gathering.{leaves_of};
 ghost use Rattle.plan.specs.Leaves.{opens, named};
-ghost use Rattle.plan.specs.Plans.{nodes_of};
+ghost use Rattle.plan.specs.Plans.{nodes_of, widths_of};
 ghost use Rattle.plan.specs.Truths.{part_at, named_rows};
 
 use super::Plan;
@@ -20,7 +20,7 @@ impl Plan {
         ensures width { result ≡ plan_width (nodes_of self.now) }
         ensures eight { result ≤ 8 }
     {
-        self.widths[self.nodes.len() - 1] as usize
+        self.steps.as_slice()[self.steps.len() - 1].width as usize
     }
 
     // How many leaves there are.
@@ -49,16 +49,17 @@ impl Plan {
     pub(super) fn part<'a>(&self, k: usize, line: &'a Line) -> &'a [u32]
         requires { k < length (nodes_of self.now) }
         ensures part { result.now ≡ part_at self.now line.now.columns k }
-        ensures wide { length result.now ≡ slice_index self.now.widths k }
+        ensures wide { length result.now ≡ slice_index (widths_of self.now) k }
     {
-        let start = self.offsets[k] as usize;
-        &line.columns[start..start + self.widths[k] as usize]
+        let step = &self.steps.as_slice()[k];
+        let start = step.start as usize;
+        &line.columns[start..start + step.width as usize]
     }
 
     // The row that a line names at a leaf.
     fn row_at(&self, leaf: &PlanLeaf, line: &Line) -> Row
         requires within { leaf.now.node < length (nodes_of self.now) }
-        requires wide { slice_index self.now.widths leaf.now.node ≡ opens leaf.now.fields }
+        requires wide { slice_index (widths_of self.now) leaf.now.node ≡ opens leaf.now.fields }
         ensures { result ≡ named leaf.now.relation leaf.now.fields (part_at self.now line.now.columns leaf.now.node) }
     {
         named_row(leaf.relation, leaf.fields, self.part(leaf.node, line))

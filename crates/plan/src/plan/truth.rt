@@ -45,7 +45,7 @@ impl Plan {
         requires earlier { k ≤ length truths.now }
         ensures { result ≡ truth_of false (part_at self.now line.now.columns k) truths.now (slice_index_or (nodes_of self.now) k blank) }
     {
-        match self.nodes.as_slice()[k] {
+        match self.steps.as_slice()[k].node {
             Node::Leaf { .. } => false,
             Node::Choice {
                 node,
@@ -71,14 +71,14 @@ impl Plan {
         }
         let mut truths = Few::<bool, 16>::new(false);
         let mut leaf = 0;
-        for (k, node) in self.nodes.as_slice().iter().enumerate() {
-            if let Node::Leaf { .. } = *node {
+        for (k, step) in self.steps.as_slice().iter().enumerate() {
+            if let Node::Leaf { .. } = step.node {
                 truths.push(truth[leaf]);
                 leaf += 1;
             } else {
                 truths.push(self.truth_at(k, line, truths.as_slice()));
             }
         }
-        truths.as_slice()[self.nodes.len() - 1]
+        truths.as_slice()[self.steps.len() - 1]
     }
 }

@@ -12,18 +12,19 @@ use Rattle.plan.specs.declared.plan.Plan.{Plan}
 use Rattle.plan.proofs.Answering.{by_names}
 use Rattle.plan.proofs.Evaluating.{own_idle, truths_more, truths_long}
 use Rattle.plan.proofs.PlanLeaves.{leaf_number, leaves_few}
+use Rattle.plan.proofs.PlanNodes.{steps_long, step_node}
 use Rattle.plan.proofs.Standing.{NoLeaf, count_leaf, count_other}
 use Rattle.plan.proofs.plan.Plan.holds.Goals as goal
 use Rattle.plan.proofs.plan.Plan.holds.Goals.{In-Leaf, After-len, in-Leaf, in_default}
 
 leaf : (c : In-Leaf) → get_or (nodes_of c.args.self.now) c.loop-k.k blank ≡ Leaf c.in-Leaf.relation c.in-Leaf.arity c.in-Leaf.fields
-leaf c = ap (λ ns. get_or ns c.loop-k.k blank) (sym c.as_slice-node-items.ensures.items) ∙ c.in-Leaf.is
+leaf c = sym (step_node c.args.self.now _ c.as_slice-step-items.ensures.items c.loop-k.k _ c.loop-k-test.true) ∙ c.in-Leaf.is
 
 -- at a leaf, one of the six is next
 next : (c : In-Leaf) → c.loop-k.leaf < 6
 next c =
     let plan = c.args.self.now in
-    let (few, _) = leaf_number plan c.loop-k.k (omega (arith, ap length c.as_slice-node-items.ensures.items)) _ _ _ (leaf c) in
+    let (few, _) = leaf_number plan c.loop-k.k (omega (arith, ap length c.as_slice-step-items.ensures.items, steps_long plan)) _ _ _ (leaf c) in
     omega (arith, leaves_few plan)
 
 pub bounds-truth-leaf : goal.bounds-truth-leaf
@@ -36,7 +37,7 @@ pub truth_at-requires : goal.truth_at-requires
 truth_at-requires c =
     let plan = c.args.self.now in
     let all = truths plan c.args.line.now.columns c.args.truth.now in
-    let within : c.loop-k.k < length (nodes_of plan) = omega (arith, ap length c.as_slice-node-items.ensures.items) in
+    let within : c.loop-k.k < length (nodes_of plan) = omega (arith, ap length c.as_slice-step-items.ensures.items, steps_long plan) in
     let long : length (take c.loop-k.k all) ≡ c.loop-k.k = length-take-le c.loop-k.k all (omega (arith, truths_long plan c.args.line.now.columns c.args.truth.now)) in
     record { within = within; earlier = omega (arith, ap length c.as_slice.ensures.items, ap length c.loop-k.invariant.1) }
 
@@ -47,19 +48,20 @@ loop-k-preserved c =
     let columns = c.args.line.now.columns in
     let truth = c.args.truth.now in
     let k = c.loop-k.k in
-    let items = c.as_slice-node-items.ensures.items in
-    let l : k < length nodes = omega (arith, ap length items) in
+    let items = c.as_slice-step-items.ensures.items in
+    let l : k < length nodes = omega (arith, ap length items, steps_long plan) in
+    let node = step_node plan _ items k _ c.loop-k-test.true in
     let (count, front) = c.loop-k.invariant in
     let own = get_or truth (leaves_before nodes k) false in
     let bs = items_in c.loop-k.truths in
-    elim c.match-node.branch [
+    elim c.match-step.branch [
       | in-Leaf w ↦
-          let is = ap (λ ns. get_or ns k blank) (sym items) ∙ w.in-Leaf.is in (
+          let is = sym node ∙ w.in-Leaf.is in (
             omega (arith, w.leaf-is, count_leaf nodes k l _ _ _ is),
             ap items_in w.truths-is ∙ w.push.ensures ∙ truths_more plan columns truth k l bs _ front (ap (λ n. get_or truth n false) count ∙ sym (ap (truth_of own (part_at plan columns k) bs) is)),
           )
       | in_default w ↦
-          let other = subst NoLeaf (ap (λ ns. get_or ns k blank) items) w.in_default.not-Leaf in (
+          let other = subst NoLeaf node w.in_default.not-Leaf in (
             omega (arith, w.leaf-is, count_other nodes k l other),
             ap items_in w.truths-is ∙ w.push-in_default.ensures ∙ truths_more plan columns truth k l bs _ front (w.truth_at.ensures ∙ own_idle own (part_at plan columns k) _ (get_or nodes k blank) other ∙ ap (λ ts. truth_of own (part_at plan columns k) ts (get_or nodes k blank)) w.as_slice.ensures.items),
           )
@@ -82,10 +84,10 @@ ended : (c : After-len) → c.as_slice-2.result.now ≡ truths c.args.self.now c
 ended c =
     let plan = c.args.self.now in
     let all = truths plan c.args.line.now.columns c.args.truth.now in
-    c.as_slice-2.ensures.items ∙ c.loop-k.invariant.1 ∙ take_all c.loop-k.k all (omega (arith, truths_long plan c.args.line.now.columns c.args.truth.now, ap length c.as_slice-node-items.ensures.items))
+    c.as_slice-2.ensures.items ∙ c.loop-k.invariant.1 ∙ take_all c.loop-k.k all (omega (arith, truths_long plan c.args.line.now.columns c.args.truth.now, ap length c.as_slice-step-items.ensures.items, steps_long plan))
 
 pub bounds-as_slice-len : goal.bounds-as_slice-len
-bounds-as_slice-len c = omega (arith, ap length (ended (goal.at.bounds-as_slice-len c).After-len), truths_long c.args.self.now c.args.line.now.columns c.args.truth.now, c.args.self.now.some)
+bounds-as_slice-len c = omega (arith, ap length (ended (goal.at.bounds-as_slice-len c).After-len), truths_long c.args.self.now c.args.line.now.columns c.args.truth.now, c.len.ensures.length, steps_long c.args.self.now, c.args.self.now.some)
 
 pub returns : goal.returns
 returns c =
@@ -94,5 +96,5 @@ returns c =
     let truth = c.args.truth.now in
     let r = get_or c.as_slice-2.result.now (c.len.result - 1) false in
     let told : r ≡ plan_truth plan columns truth =
-    ap₂ (λ ts n. get_or ts (n - 1) false) (ended (goal.at.returns c).After-len) c.len.ensures.length ∙ ap (λ fits. fits && get_or (truths plan columns truth) (length (nodes_of plan) - 1) false) c.if-not-fits.ensures in
+    ap₂ (λ ts n. get_or ts (n - 1) false) (ended (goal.at.returns c).After-len) (c.len.ensures.length ∙ steps_long plan) ∙ ap (λ fits. fits && get_or (truths plan columns truth) (length (nodes_of plan) - 1) false) c.if-not-fits.ensures in
     record { told = told; means = says plan columns truth r told }

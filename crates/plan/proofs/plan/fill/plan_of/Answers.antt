@@ -1,9 +1,10 @@
 use Rattle.std.proofs.Common.{◌≡◌, ◌-◌, ◌<◌, length, sym, ap, ◌∙◌, subst, rules, arith}
 use Rattle.plan.specs.Filling.{Earlier, late_at, stray_at, unfit_at, first}
 use Rattle.plan.specs.Gathering.{leaves_of, Gathered}
-use Rattle.plan.specs.Parts.{Measured, Offsets, Roomy}
+use Rattle.plan.specs.Parts.{Measured}
 use Rattle.plan.proofs.Asked.{granted}
 use Rattle.plan.proofs.Firsts.{before_first, first_none}
+use Rattle.plan.proofs.Kept.{measured_kept, offsets_kept, roomy_kept}
 use Rattle.plan.proofs.Tried.{went_on}
 use Rattle.plan.proofs.plan.fill.plan_of.Goals as goal
 use Rattle.plan.proofs.plan.fill.plan_of.Goals.{In_ok-map_err, In_ok-map_err-2, In_ok-leaves, In_ok-widths}
@@ -26,10 +27,10 @@ early c = let nodes = c.args.nodes.now in before_first (late_at nodes) (length n
 pub measure-requires-clause-early : goal.measure-requires-clause-early
 measure-requires-clause-early c = early (goal.at.measure-requires-clause-early c).In_ok-map_err
 
-pub offsets_of-requires : goal.offsets_of-requires
-offsets_of-requires c =
+pub offsets_of-starts-requires : goal.offsets_of-starts-requires
+offsets_of-starts-requires c =
     let nodes = c.args.nodes.now in
-    let at = goal.at.offsets_of-requires c in
+    let at = goal.at.offsets_of-starts-requires c in
     record {
       few = omega arith;
       early = early at.In_ok-map_err;
@@ -41,16 +42,19 @@ pub invariant_of-result : goal.invariant_of-result
 invariant_of-result c =
     let nodes = c.args.nodes.now in
     let at = goal.at.invariant_of-result c in
-    let same = sym c.of.ensures in
+    let kept = c.steps_of.ensures in
     let widths = c.in_ok-widths.widths in
+    let starts = c.offsets_of-starts.result in
+    let told = c.offsets_of-starts.ensures in
+    let some : 0 < length nodes = search rules in
+    let before = early at.In_ok-map_err in
     record {
-      long = ((measured at.In_ok-widths).1, c.offsets_of.ensures.long);
-      some = let some : 0 < length nodes = search rules in omega (arith, ap length c.of.ensures);
-      early = subst Earlier same (early at.In_ok-map_err);
-      wide = subst (λ ns. Measured ns (length ns) widths) same (measured at.In_ok-widths).0;
-      starts = subst (λ ns. Offsets ns widths c.offsets_of.result) same c.offsets_of.ensures.starts;
-      room = subst (λ ns. Roomy (length ns) widths c.offsets_of.result) same c.offsets_of.ensures.room;
-      stand = (gathered at.In_ok-leaves).stand ∙ ap leaves_of same;
+      some = omega (arith, ap length kept.nodes);
+      early = subst Earlier (sym kept.nodes) before;
+      wide = rw (kept.nodes, kept.widths) (measured_kept nodes widths starts (measured at.In_ok-widths).0);
+      starts = rw (kept.nodes, kept.widths, kept.starts) (offsets_kept nodes widths starts some before told.starts);
+      room = rw (kept.nodes, kept.widths, kept.starts) (roomy_kept nodes widths starts told.room);
+      stand = (gathered at.In_ok-leaves).stand ∙ ap leaves_of (sym kept.nodes);
     }
 
 pub returns : goal.returns
@@ -59,5 +63,5 @@ returns c =
     let at = goal.at.returns c in (
       granted nodes (search rules) (omega arith) (none_late at.In_ok-map_err) (none_stray at.In_ok-map_err-2) (gathered at.In_ok-leaves).none
           (first_none (unfit_at nodes) (length nodes) (λ j h. ((measured at.In_ok-widths).0 j h).0)),
-      c.of.ensures,
+      c.steps_of.ensures.nodes,
     )
