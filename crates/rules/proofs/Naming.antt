@@ -1,5 +1,5 @@
 -- What comparisons name: columns of a row, and atoms of their rule.
-use Rattle.std.proofs.Common.{◌≡◌, ℕ, ◌<◌, ◌≤◌, true, ltb, List, [], ◌∷◌, map, length, get_or, refl, ap, ◌∙◌, arith}
+use Rattle.std.proofs.Common.{◌≡◌, ℕ, ◌<◌, ◌≤◌, true, ltb, List, [], ◌∷◌, map, length, get_or, sym, refl, ap, ◌∙◌, arith}
 use Rattle.std.proofs.lemmas.List.{get_or-map, length-map}
 use Rattle.std.proofs.lemmas.Bool.{and_parts, and_from, ltb-true, lt-ltb}
 use Rattle.std.proofs.lemmas.List.Sums.{AllPass-from_list_all}
@@ -65,3 +65,7 @@ pub chosen_columns : (picks : List Pick) (atom : ℕ) (d : Pick) → atom < leng
 chosen_columns picks atom d lt =
     get_or-map (λ (r : Row). r.columns) (rows_of_picks picks) atom d.row [] (omega (arith, length-map picks (λ (p : Pick). p.row)))
     ∙ ap (λ (r : Row). r.columns) (get_or-map (λ (p : Pick). p.row) picks atom d d.row lt)
+
+-- a rule as it is meant, among others
+pub rule_at : (rules : List Rule) (k : ℕ) (rule : Rule) → k < length rules → rule ≡ get_or rules k rule → get_or (map denial rules) k (denial rule) ≡ denial rule
+rule_at rules k rule lt is = get_or-map denial rules k rule (denial rule) lt ∙ ap denial (sym is)

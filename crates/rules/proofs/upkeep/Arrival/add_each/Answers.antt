@@ -1,5 +1,5 @@
-use Rattle.std.proofs.Common.{eqb, map, sym, ap, ◌∙◌, arith}
-use Rattle.std.proofs.lemmas.List.{get_or-map, length-map}
+use Rattle.std.proofs.Common.{eqb, map, ◌∙◌, arith}
+use Rattle.std.proofs.lemmas.List.{length-map}
 use Rattle.std.proofs.lemmas.Result.{err_from_is_err_and}
 use Rattle.std.proofs.lemmas.Bool.{not-false}
 use Rattle.store.specs.Lists.{any}
@@ -7,6 +7,7 @@ use Rattle.rules.specs.Entries.{listing}
 use Rattle.rules.specs.Rules.{denial}
 use Rattle.rules.specs.Upkeep.{away_from}
 use Rattle.rules.proofs.Completing.{one_further, half_way, over}
+use Rattle.rules.proofs.Naming.{rule_at}
 use Rattle.rules.proofs.Rounds.{round_ends}
 use Rattle.rules.proofs.upkeep.Arrival.add_each.Goals as goal
 
@@ -18,7 +19,7 @@ returns-in_err-add_share g c =
     let rules = self.rules.now in
     let rule = c.rule-item.result in
     let k = c.loop-number.number in
-    let at = get_or-map denial rules k rule (denial rule) (omega arith) ∙ ap denial (sym c.rule-item.is) in
+    let at = rule_at rules k rule (omega arith) c.rule-item.is in
     let p = err_from_is_err_and c.from_residual.result c.from_residual.ensures.1 in
     let (grown, full, (d, found)) = c.in_err-add_share.ensures in
     let up = c.add_share.new.list.rising in
@@ -36,7 +37,7 @@ loop-number-preserved g c =
     let rule = c.rule-item.result in
     let k = c.loop-number.number in
     let p = self.place in
-    let at = get_or-map denial rules k rule (denial rule) (omega arith) ∙ ap denial (sym c.rule-item.is) in
+    let at = rule_at rules k rule (omega arith) c.rule-item.is in
     let (grown, all) = c.in_ok-add_share.ensures in
     one_further table once (map denial rules) (away_from p) k (omega (arith, length-map rules denial)) (denial rule) at c.loop-number.invariant grown c.add_share.new.list.rising
     (λ chosen places ch same fresh. all chosen ch (same p ∙ not-false (any (eqb p) places) fresh))
