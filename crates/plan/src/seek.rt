@@ -42,6 +42,7 @@ pub fn lesser_of(a: Option<[u32; 8]>, b: Option<[u32; 8]>, width: usize) -> Opti
 }
 
 // The line that columns give at a leaf, if they have its constants.
+// One pass tests the fixed columns and gathers the open ones, so it goes by index.
 fn opened_line(fields: [Field; 4], columns: [u32; 4]) -> Option<[u32; 8]>
     ensures { MatchOption result (matches fields columns ≡ false) (λ a. (matches fields columns ≡ true) × (take (opens fields) a ≡ opened fields columns) × (length a ≡ 8) × Padded (opens fields) a) }
 {
