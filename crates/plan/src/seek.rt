@@ -116,7 +116,7 @@ pub fn on_left(start: Bound<[u32; 8]>) -> Bound<[u32; 8]>
     }
 }
 
-// How it goes on to the right of a left line that is past the start's left part, or at it.
+// How it goes on to the right of a left line that is past the start's left part, or at it; there the start's line is its `tail`.
 pub fn on_right(start: Bound<[u32; 8]>, past: bool) -> Bound<[u32; 8]>
     ensures { result ≡ on_right start past }
 {
