@@ -9,7 +9,6 @@ use Rattle.plan.specs.Parts.{Measured, right_start, passes, Roomy}
 use Rattle.plan.specs.declared.node.Side.{Side}
 use Rattle.plan.specs.declared.node.Op.{Op}
 use Rattle.plan.specs.declared.node.Op.TheVariants.{Product, Union, Difference}
-use Rattle.plan.specs.declared.node.Field.{Field}
 use Rattle.plan.specs.declared.node.Node.{Node}
 use Rattle.plan.specs.declared.node.Node.TheVariants.{Leaf, Choice, Pair}
 use Rattle.store.specs.declared.sign.Sign.{Sign}
@@ -109,9 +108,6 @@ module _ (nodes : List Node) (early : Earlier nodes) (once : (c : ℕ) → c < l
   ]
 
   module _ (few : length nodes ≤ 16) (k : ℕ) (within : k < length nodes) (os : List ℕ) (inv : Inv nodes ws (k + 1) os) where
-    pub leaf_step : (relation arity : ℕ) (fields : List Field) → get_or nodes k blank ≡ Leaf relation arity fields → Inv nodes ws k os
-    leaf_step relation arity fields e = stepped k within os os (λ c _. refl) (subst (Passes ws os (get_or os k 0)) (sym e) tt) inv.1 inv.3 inv
-
     pub choice_step : (m : ℕ) (left : Side) (sign : Sign) (right : Side) → get_or nodes k blank ≡ Choice m left sign right → Inv nodes ws k (set os m (get_or os k 0))
     choice_step m left sign right e =
         let o : ℕ = get_or os k 0 in

@@ -8,7 +8,8 @@ pub enum Field {
     Fixed(u32),
 }
 
-// What a choice compares: a column of the line, or a constant.
+// What a choice compares: a column of the line, or a constant. The crate `rules` has sides of its own, whose columns are named
+// by two numbers: one type for both would need a parameter for its two uses.
 #[derive(Clone, Copy)]
 pub enum Side {
     Column(u8),

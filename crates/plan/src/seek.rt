@@ -42,6 +42,7 @@ pub fn lesser_of(a: Option<[u32; 8]>, b: Option<[u32; 8]>, width: usize) -> Opti
 }
 
 // The line that columns give at a leaf, if they have its constants.
+// One pass tests the fixed columns and gathers the open ones, so it goes by index.
 fn opened_line(fields: [Field; 4], columns: [u32; 4]) -> Option<[u32; 8]>
     ensures { MatchOption result (matches fields columns ≡ false) (λ a. (matches fields columns ≡ true) × (take (opens fields) a ≡ opened fields columns) × (length a ≡ 8) × Padded (opens fields) a) }
 {
@@ -115,7 +116,7 @@ pub fn on_left(start: Bound<[u32; 8]>) -> Bound<[u32; 8]>
     }
 }
 
-// How it goes on to the right of a left line that is past the start's left part, or at it.
+// How it goes on to the right of a left line that is past the start's left part, or at it; there the start's line is its `tail`.
 pub fn on_right(start: Bound<[u32; 8]>, past: bool) -> Bound<[u32; 8]>
     ensures { result ≡ on_right start past }
 {
