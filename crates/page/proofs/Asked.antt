@@ -1,51 +1,53 @@
--- What a question to each thing of a list comes to, from the answers to the things.
-use Rattle.std.proofs.Common.{◌≡◌, ℕ, zero, suc, ◌<◌, Bool, true, false, List, [], ◌∷◌, length, get_or, Some, None, Option, refl, ap, ◌∙◌, zero-add, arith}
-use Rattle.std.proofs.lemmas.List.FromFn.{length-range_with_len, get_or-range_with_len}
+-- What a question to each thing of a list comes to, from a look for the first thing that fails it.
+use Rattle.std.proofs.Common.{◌≡◌, ℕ, suc, ◌<◌, Bool, true, false, not, List, [], ◌∷◌, length, get_or, Some, None, Option, refl, ap, ◌∙◌, arith}
+use Rattle.std.specs.Fn.{Called}
+use Rattle.std.specs.Iterator.{YieldsThen}
+use Rattle.std.specs.List.{AllWithin, FoldsTo, HoldsAt}
+use Rattle.std.proofs.lemmas.Iterator.{YieldsList, IsFirst-from_position}
+use denote.Param.Members.{Mut}
+use Rattle.std.specs.Option.{MatchOption}
 use Rattle.std.proofs.lemmas.Bool.{and_from}
-use Rattle.std.specs.List.{range_with_len, prefix_len}
-use Rattle.fault.specs.Questions.{ask}
+use Rattle.std.proofs.lemmas.List.{get_or_default}
+use Rattle.std.proofs.lemmas.List.Folds.{list_all_at}
+use Rattle.std.proofs.lemmas.List.Sums.{prefix_len_is}
 use Rattle.store.specs.Lists.{all}
 use Rattle.page.specs.Checks.{ask_each}
 use Rattle.page.specs.declared.refusal.Refusal.{Refusal}
 
--- a question that refuses nothing leaves all to the rest, and one that refuses is not followed by another
-pub granted : {E : Type 0} (answer : Bool) (refusal : E) (rest : Option E) → ask answer refusal None ≡ None → ask answer refusal rest ≡ rest
-granted true refusal rest none = refl
-granted false refusal rest none = absurd (let z : ◌≡◌ {A = ℕ} 0 1 = cc in omega arith)
+-- the refusal at the place that was found, or else what the rest of the questions says
+abbrev pub said : (ℕ → Refusal) → Option Refusal → Option ℕ → Option Refusal
+said refusal rest None = rest
+said refusal rest (Some place) = Some (refusal place)
 
-pub refused : {E : Type 0} (answer : Bool) (refusal why : E) (rest : Option E) → ask answer refusal None ≡ Some why → ask answer refusal rest ≡ Some why
-refused true refusal why rest some = absurd (let z : ◌≡◌ {A = ℕ} 0 1 = cc in omega arith)
-refused false refusal why rest some = some
+module _ {A : Type 0} (test : A → Bool) where
+  -- the place is that of the first thing that fails, or each thing passes
+  abbrev pub FirstFailing : List A → Option ℕ → Type 0
+  FirstFailing xs r = MatchOption r (AllWithin (λ x. test x ≡ true) xs 0 (length xs)) (λ i. (i < length xs) × HoldsAt (λ x. test x ≡ false) xs i × AllWithin (λ x. test x ≡ true) xs 0 i)
 
-module _ {A : Type 0} (test : A → Bool) (d : A) where
-  all_pass : (xs : List A) → ((k : ℕ) → k < length xs → test (get_or xs k d) ≡ true) → all test xs ≡ true
+  module _ {S T F : Type 0} {steps : S → Option T → S → Type 0} {v : T → A} {g : Mut F (T × Unit {0}) Bool} {s : S} {f : F} {r : Option ℕ} {xs : List A} where
+    pub failing_from_position : (u : S) → (ys : List T) × (o : Option T) × (j : F) × YieldsThen steps s ys o u × FoldsTo (λ p x q. Called g p (x, tt) false q) f ys j × MatchOption o (r ≡ None) (λ x. (r ≡ Some (length ys)) × ((h : F) × Called g j (x, tt) true h))
+        → YieldsList steps v s xs → ((x : T) (b : Bool) (q : F) → Called g f (x, tt) b q → (q ≡ f) × (b ≡ not (test (v x)))) → FirstFailing xs r
+    failing_from_position u ran road is = IsFirst-from_position u f r (λ x. test x ≡ false) (λ x. test x ≡ true) ran road (λ x q k. failed (test (v x)) (is x true q k).1) (λ x q k. ((is x false q k).0, passed (test (v x)) (is x false q k).1))
+      where
+        failed : (b : Bool) → true ≡ not b → b ≡ false
+        failed true e = e
+        failed false e = refl
+
+        passed : (b : Bool) → false ≡ not b → b ≡ true
+        passed true e = refl
+        passed false e = e
+
+  all_pass : (xs : List A) → AllWithin (λ x. test x ≡ true) xs 0 (length xs) → all test xs ≡ true
   all_pass [] passed = refl
-  all_pass (x ∷ xs) passed = and_from (test x) (all test xs) (passed 0 (omega arith)) (all_pass xs (λ k h. passed (suc k) (omega arith)))
+  all_pass (x ∷ xs) passed = and_from (test x) (all test xs) (passed 0 x (omega arith) (omega arith)) (all_pass xs (λ k d low high. passed (suc k) d (omega arith) (omega arith)))
 
-  first : (xs : List A) (i : ℕ) → i < length xs → ((k : ℕ) → k < i → test (get_or xs k d) ≡ true) → test (get_or xs i d) ≡ false → (all test xs ≡ false) × (prefix_len test xs ≡ i)
-  first [] i inside passed failed = absurd (omega arith)
-  first (x ∷ xs) zero inside passed failed = (rw failed, rw failed)
-  first (x ∷ xs) (suc i) inside passed failed =
-      let (some, at) = first xs i (omega arith) (λ k h. passed (suc k) (omega arith)) failed in
-      let head : test x ≡ true = passed 0 (omega arith) in
-      (rw head some, rw head (omega arith))
+  pub each_asked : (d : A) (xs : List A) (refusal : ℕ → Refusal) (rest : Option Refusal) (r : Option ℕ) → FirstFailing xs r → ask_each test xs refusal rest ≡ said refusal rest r
+  each_asked d xs refusal rest None passed = rw (all_pass xs passed)
+  each_asked d xs refusal rest (Some i) (inside, failed, before) =
+      let none = list_all_at test xs i d inside (failed d) in
+      let place = prefix_len_is test xs i d (omega arith) (λ k h. before k d (omega arith) h) (λ h. failed d) in
+      rw (none, place)
 
-  module _ (xs : List A) (refusal : ℕ → Refusal) (rest : Option Refusal) where
-    -- where each thing passes, the rest of the questions decides
-    pub each_passed : ((k : ℕ) → k < length xs → test (get_or xs k d) ≡ true) → ask_each test xs refusal rest ≡ rest
-    each_passed passed = rw (all_pass xs passed)
-
-    -- where the thing at i fails and all before it pass, i is the position
-    pub each_failed : (i : ℕ) → i < length xs → ((k : ℕ) → k < i → test (get_or xs k d) ≡ true) → test (get_or xs i d) ≡ false → ask_each test xs refusal rest ≡ Some (refusal i)
-    each_failed i inside passed failed = let (some, at) = first xs i inside passed failed in rw (some, at)
-
--- the same, where the things are the places below n
-module _ (test : ℕ → Bool) (n : ℕ) (refusal : ℕ → Refusal) (rest : Option Refusal) where
-  at_place : (k : ℕ) → k < n → test (get_or (range_with_len 0 n) k 0) ≡ test k
-  at_place k inside = ap test (get_or-range_with_len 0 n k 0 inside ∙ zero-add k)
-
-  pub places_passed : ((k : ℕ) → k < n → test k ≡ true) → ask_each test (range_with_len 0 n) refusal rest ≡ rest
-  places_passed passed = each_passed test 0 (range_with_len 0 n) refusal rest (λ k h. let inside : k < n = omega (arith, length-range_with_len 0 n) in at_place k inside ∙ passed k inside)
-
-  pub places_failed : (i : ℕ) → i < n → ((k : ℕ) → k < i → test k ≡ true) → test i ≡ false → ask_each test (range_with_len 0 n) refusal rest ≡ Some (refusal i)
-  places_failed i inside passed failed = each_failed test 0 (range_with_len 0 n) refusal rest i (omega (arith, length-range_with_len 0 n)) (λ k h. at_place k (omega arith) ∙ passed k h) (at_place i inside ∙ failed)
+  -- where each thing passes, the rest of the questions decides
+  pub each_passed : (d : A) (xs : List A) (refusal : ℕ → Refusal) (rest : Option Refusal) → ((k : ℕ) → k < length xs → test (get_or xs k d) ≡ true) → ask_each test xs refusal rest ≡ rest
+  each_passed d xs refusal rest passed = each_asked d xs refusal rest None (λ k e low inside. ap test (get_or_default xs k e d inside) ∙ passed k inside)

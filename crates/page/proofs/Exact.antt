@@ -1,6 +1,13 @@
 -- A record that passes the check is the record of what it holds, and a row is what its record holds.
-use Rattle.std.proofs.Common.{◌≡◌, ℕ, true, false, eqb, List, [], ◌∷◌, map, length, get_or, drop, replicate, Some, None, Option, sym, refl, ap, ◌∙◌, ap₂, ⊎_elim, arith}
+use Rattle.std.proofs.Common.{◌≡◌, ℕ, true, false, eqb, List, [], ◌∷◌, map, length, get_or, drop, replicate, Some, None, sym, refl, ap, ◌∙◌, ap₂, ⊎_elim, arith}
 use Rattle.std.proofs.lemmas.List.FromFn.{fill_by_all}
+use Rattle.std.proofs.lemmas.Option.{none-some, same_Some}
+use Rattle.std.proofs.lemmas.Slice.Eq.{bytes_eq-Decides}
+use Rattle.std.specs.Str.{bytes_eq}
+use Rattle.store.specs.Store.{is_row}
+use Rattle.store.proofs.Alike.{same_row_refl}
+use Rattle.store.proofs.Looked.{row_there}
+use Rattle.store.proofs.Tests.{same_tests}
 use Rattle.std.proofs.lemmas.Bool.{and_parts, eqb-true, cases_Bool, cond-true, cond-false}
 use Rattle.std.specs.List.{range_with_len}
 use Rattle.store.specs.Lists.{all}
@@ -12,10 +19,10 @@ module _ (bytes : List ℕ) (long : length bytes ≡ 20) where
   abbrev at : ℕ → ℕ
   at k = get_or bytes k 0
 
-  twenty : bytes ≡ map at (range_with_len 0 20)
+  pub twenty : bytes ≡ map at (range_with_len 0 20)
   twenty = fill_by_all at bytes 20 0 long (λ k h. refl)
 
-  row_exact : AreBytes bytes → marks_row bytes ≡ true → record_of (Some (row_in bytes)) ≡ bytes
+  pub row_exact : AreBytes bytes → marks_row bytes ≡ true → record_of (Some (row_in bytes)) ≡ bytes
   row_exact small marked =
       let (m, n) = and_parts (eqb (at 0) 0x49) (eqb (at 1) 0x43) marked in
       let p = eqb-true (at 0) 0x49 m in
@@ -55,9 +62,6 @@ record_exact arity bytes long small marked fit = ⊎_elim
 pub spelled : (row : Row) → length row.columns ≡ 4 → row ≡ record { relation = row.relation; columns = map (λ k. get_or row.columns k 0) (range_with_len 0 4) }
 spelled row count = let four = fill_by_all (λ k. get_or row.columns k 0) row.columns 4 0 count (λ k h. refl) in λ i. record { relation = row.relation; columns = four i }
 
-pub row_long : (row : Row) → Proper row → length (record_of (Some row)) ≡ 20
-row_long row proper = ap (λ (r : Row). length (record_of (Some r))) (spelled row proper.count)
-
 -- what the record of a proper row holds is the row
 pub row_back : (row : Row) → Proper row → place_of (record_of (Some row)) ≡ Some row
 row_back row proper =
@@ -71,6 +75,19 @@ row_back row proper =
     let back : place_of (record_of (Some (record { relation = row.relation; columns = map at (range_with_len 0 4) }))) ≡ Some (record { relation = row.relation; columns = map at (range_with_len 0 4) }) = cc in
     ap (λ (r : Row). place_of (record_of (Some r))) same ∙ back ∙ ap Some (sym same)
 
-pub place_back : (place : Option Row) → ((row : Row) → place ≡ Some row → Proper row) → place_of (record_of place) ≡ place
-place_back None proper = refl
-place_back (Some row) proper = row_back row (proper row refl)
+-- a record that holds a row is marked so
+pub held : (bytes : List ℕ) (row : Row) → place_of bytes ≡ Some row → (marks_row bytes ≡ true) × (row_in bytes ≡ row)
+held bytes row e = ⊎_elim
+    (λ (marked : marks_row bytes ≡ true). (marked, same_Some (row_in bytes) row (sym (cond-true (marks_row bytes) (Some (row_in bytes)) None marked) ∙ e)))
+    (λ (other : marks_row bytes ≡ false). absurd (none-some row (sym (cond-false (marks_row bytes) (Some (row_in bytes)) None other) ∙ e)))
+    (cases_Bool (marks_row bytes))
+
+-- a record holds a row where it is the row's record
+pub same_record : (row : Row) (of_row : List ℕ) → record_of (Some row) ≡ of_row → place_of of_row ≡ Some row
+    → (bytes : List ℕ) → (marks_row bytes ≡ true → record_of (Some (row_in bytes)) ≡ bytes) → bytes_eq bytes of_row ≡ is_row row (place_of bytes)
+same_record row of_row is back bytes exact =
+    let (from, to) = bytes_eq-Decides bytes of_row in
+    same_tests (bytes_eq bytes of_row) (is_row row (place_of bytes))
+    (λ h. ap (λ (bs : List ℕ). is_row row (place_of bs)) (from h) ∙ ap (is_row row) back ∙ same_row_refl row)
+    (λ h. let (marked, alike) = held bytes row (row_there row (place_of bytes) h) in
+    to (sym (exact marked) ∙ ap (λ (r : Row). record_of (Some r)) alike ∙ is))

@@ -1,6 +1,8 @@
 -- A page that one record is written to stays a page.
-use Rattle.std.proofs.Common.{◌≡◌, ℕ, ◌+◌, ◌*◌, ◌/◌, ◌%◌, ◌<◌, ◌≤◌, true, false, ltb, List, [], ◌++◌, length, get_or, take, drop, set, is_some, Some, None, Option, sym, refl, ap, ◌∙◌, subst, ⊎_elim, arith}
-use Rattle.std.proofs.lemmas.List.{get_or-take, length-take, length-drop, length-append}
+use Rattle.std.proofs.Common.{◌≡◌, ℕ, ◌+◌, ◌*◌, ◌/◌, ◌%◌, ◌<◌, ◌≤◌, true, false, ltb, List, [], ◌++◌, length, get_or, take, drop, set, is_some, Some, None, Option, sym, refl, ap, ◌∙◌, subst, ⊎_elim, zero-add, arith}
+use Rattle.std.proofs.lemmas.List.{get_or_default, get_or-take, length-take, length-drop, length-append}
+use Rattle.std.proofs.lemmas.List.FromFn.{length-range_with_len, get_or-range_with_len}
+use Rattle.std.specs.List.{range_with_len}
 use Rattle.std.proofs.lemmas.Bool.{cases_Bool, cond-true, cond-false, not_from_false, eq-eqb, le-leb}
 use Rattle.store.specs.Lists.{any}
 use Rattle.store.specs.Keeping.{keeps_of}
@@ -9,15 +11,16 @@ use Rattle.store.specs.Rows.{arity_in, zero_from}
 use Rattle.store.specs.Store.{is_row}
 use Rattle.store.specs.declared.row.Row.{Row}
 use Rattle.store.proofs.Places.{once_put, once_struck, fit_put, fit_struck}
+use Rattle.store.proofs.Firsts.{any_none}
+use Rattle.store.proofs.Looked.{row_there}
 use Rattle.store.proofs.Tests.{from_not}
 use Rattle.page.specs.Checks.{is_new, is_new_to, record_refusal, IsPage}
 use Rattle.page.specs.Pages.{records_of, places_of, written}
-use Rattle.page.specs.Records.{Proper, marks_row, is_marked, is_fit, row_in, place_of, record_of}
+use Rattle.page.specs.Records.{marks_row, is_marked, is_fit, row_in, place_of, record_of}
 use Rattle.page.specs.declared.refusal.Refusal.TheVariants.{Unmarked, Unfit, Repeated}
-use Rattle.page.proofs.Asked.{each_passed, places_passed}
+use Rattle.page.proofs.Asked.{each_passed}
 use Rattle.page.proofs.Chunks.{length_records}
-use Rattle.page.proofs.Exact.{row_back, row_long}
-use Rattle.page.proofs.Pages.{any_none, is_row_lem, length_places, place_at, Exact, whole_from, long_from, record_at, places_anew, exact_anew}
+use Rattle.page.proofs.Pages.{length_places, place_at, Exact, whole_from, long_from, record_at, places_anew, exact_anew}
 
 marked_of : (place : Option Row) → is_marked (record_of place) ≡ true
 marked_of None = refl
@@ -50,18 +53,21 @@ module _ (bytes arities : List ℕ) (exact : Exact bytes) (fit : FitIn arities (
     where
       go : (here : Option Row) → get_or (places_of bytes) q None ≡ here → is_new_to (take q (places_of bytes)) here ≡ true
       go None at-q = refl
-      go (Some row) at-q = not_from_false _ (any_none (is_row row) (take q (places_of bytes)) None (λ p before. from_not _ (λ alike.
-          let earlier : p < q = omega (arith, length-take q (places_of bytes)) in
-          let at_p : get_or (places_of bytes) p None ≡ Some row = sym (get_or-take q (places_of bytes) p None earlier) ∙ is_row_lem row _ alike in
+      go (Some row) at-q = not_from_false _ (any_none (is_row row) (take q (places_of bytes)) (λ p d before. from_not _ (λ alike.
+          let earlier : (p < q) × (p < length (places_of bytes)) = (omega (arith, length-take q (places_of bytes)), omega (arith, length-take q (places_of bytes))) in
+          let at_p : get_or (places_of bytes) p None ≡ Some row = get_or_default (places_of bytes) p None d earlier.1 ∙ sym (get_or-take q (places_of bytes) p d earlier.0) ∙ row_there row _ alike in
           let e = once q p (ap is_some at-q, at-q ∙ sym at_p) in
           absurd (omega arith))))
 
   records_pass : record_refusal arity records ≡ None
   unfolding places_of
   records_pass =
+      let count = length records in
       each_passed is_marked [] records Unmarked _ marked_at
       ∙ each_passed (is_fit arity) [] records Unfit _ fit_at
-      ∙ places_passed (is_new (places_of bytes)) (length records) Repeated None new_at
+      ∙ each_passed (is_new (places_of bytes)) 0 (range_with_len 0 count) Repeated None (λ k h.
+      let inside : k < count = omega (arith, length-range_with_len 0 count) in
+      ap (is_new (places_of bytes)) (get_or-range_with_len 0 count k 0 inside ∙ zero-add k) ∙ new_at k inside)
 
   page_exact : length bytes % 20 ≡ 0 → length bytes ≤ 5120 → IsPage bytes arities
   page_exact whole short =
@@ -89,14 +95,15 @@ module _ (bytes arities : List ℕ) (page : IsPage bytes arities) (p : ℕ) (ins
         page_exact (written bytes p (record_of new)) arities (exact_anew bytes page.whole p inside new back long) (subst (FitIn arities) places fit) (subst OnceIn places once)
         (omega arith) (omega (arith, page.kept.few))
 
-  pub page_put : (row : Row) → Proper row → ltb 0 (arity_in arities row.relation) ≡ true → zero_from (arity_in arities row.relation) row.columns ≡ true → any (is_row row) (places_of bytes) ≡ false → IsPage (written bytes p (record_of (Some row))) arities
-  page_put row proper declared zeros free = anew (Some row) (row_back row proper) (row_long row proper) (fit_put (places_of bytes) p inside arities row declared zeros page.kept.fit) (once_put (places_of bytes) p inside row free page.kept.once)
+  module _ (row : Row) (back : place_of (record_of (Some row)) ≡ Some row) (long : length (record_of (Some row)) ≡ 20) where
+    pub page_put : ltb 0 (arity_in arities row.relation) ≡ true → zero_from (arity_in arities row.relation) row.columns ≡ true → any (is_row row) (places_of bytes) ≡ false → IsPage (written bytes p (record_of (Some row))) arities
+    page_put declared zeros free = anew (Some row) back long (fit_put (places_of bytes) p inside arities row declared zeros page.kept.fit) (once_put (places_of bytes) p inside row free page.kept.once)
+
+    pub places_put : places_of (written bytes p (record_of (Some row))) ≡ set (places_of bytes) p (Some row)
+    places_put = places_anew bytes page.whole p inside (Some row) back long
 
   pub page_struck : IsPage (written bytes p (record_of None)) arities
   page_struck = anew None refl refl (fit_struck (places_of bytes) p inside arities page.kept.fit) (once_struck (places_of bytes) p inside page.kept.once)
-
-  pub places_put : (row : Row) → Proper row → places_of (written bytes p (record_of (Some row))) ≡ set (places_of bytes) p (Some row)
-  places_put row proper = places_anew bytes page.whole p inside (Some row) (row_back row proper) (row_long row proper)
 
   pub places_struck : places_of (written bytes p (record_of None)) ≡ set (places_of bytes) p None
   places_struck = places_anew bytes page.whole p inside None refl refl

@@ -15,9 +15,6 @@ pub record Laid (places : List (Option Row)) (bytes : List ℕ) (n : ℕ) : Type
   pub back : (k : ℕ) → k < n → place_of (record_of (get_or places k None)) ≡ get_or places k None
 
 module _ (places : List (Option Row)) (bytes : List ℕ) where
-  pub laid_none : length bytes ≡ 20 * length places → Laid places bytes 0
-  laid_none long = record { long = long; laid = λ k h. absurd (omega arith); back = λ k h. absurd (omega arith) }
-
   pub laid_more : (n : ℕ) (after : List ℕ) → n < length places → length after ≡ length bytes → Laid places bytes n
       → length (record_of (get_or places n None)) ≡ 20 → place_of (record_of (get_or places n None)) ≡ get_or places n None
       → after ≡ written bytes n (record_of (get_or places n None)) → Laid places after (n + 1)

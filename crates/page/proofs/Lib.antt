@@ -1,8 +1,13 @@
+pub mod Spelling
+pub mod Made
 pub mod Asked
 pub mod Numbers
 pub mod Chunks
 pub mod Exact
+pub mod Through
 pub mod Pages
+pub mod Looks
+pub mod Repeats
 pub mod Passing
 pub mod Kept
 pub mod Opened

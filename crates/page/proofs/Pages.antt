@@ -1,53 +1,20 @@
 -- Bytes, records and places of a page, and how one gives the others.
-use Rattle.std.proofs.Common.{◌≡◌, ℕ, zero, suc, ◌*◌, ◌/◌, ◌<◌, Bool, true, false, cond, List, [], ◌∷◌, ◌++◌, map, length, get_or, set, Some, None, Option, sym, refl, ap, ◌∙◌, arith}
+use Rattle.std.proofs.Common.{◌≡◌, ℕ, ◌*◌, ◌/◌, ◌<◌, Bool, true, false, cond, List, [], ◌∷◌, ◌++◌, map, length, get_or, set, Some, None, Option, sym, refl, ap, ◌∙◌, arith}
+use Rattle.std.proofs.Math.ListN.{get_or-map as map_read}
 use Rattle.std.proofs.lemmas.List.{length-map, map-set, get_or-map, ext_get_or}
-use Rattle.std.proofs.lemmas.Bool.{or_from, both_ways}
 use Rattle.std.specs.List.{flat_map}
-use Rattle.store.specs.Lists.{any}
-use Rattle.store.specs.Store.{is_row}
-use Rattle.store.proofs.Alike.{same_row_is}
 use Rattle.store.specs.declared.row.Row.{Row}
 use Rattle.page.specs.Pages.{records_of, places_of, page_of, written}
 use Rattle.page.specs.Records.{marks_row, row_in, place_of, record_of}
 use Rattle.page.proofs.Chunks.{Long, length_records, joined_records, records_joined, records_written}
 
-pub any_none : {A : Type 0} (test : A → Bool) (xs : List A) (d : A) → ((k : ℕ) → k < length xs → test (get_or xs k d) ≡ false) → any test xs ≡ false
-any_none test [] d none = refl
-any_none test (x ∷ xs) d none = or_from (test x) (any test xs) (none 0 (omega arith)) (any_none test xs d (λ k h. none (suc k) (omega arith)))
-
 pub length_places : (bytes : List ℕ) → length (places_of bytes) ≡ length bytes / 20
 unfolding places_of
 length_places bytes = length-map (records_of bytes) place_of ∙ length_records bytes
 
-get_d_map_all : {A B : Type 0} (f : A → B) (xs : List A) (k : ℕ) (d : A) → get_or (map f xs) k (f d) ≡ f (get_or xs k d)
-get_d_map_all f [] k d = refl
-get_d_map_all f (x ∷ xs) zero d = refl
-get_d_map_all f (x ∷ xs) (suc k) d = get_d_map_all f xs k d
-
--- what stands at a place, also past the last
-pub place_of_lem : (records : List (List ℕ)) (p : ℕ) → get_or (map place_of records) p None ≡ place_of (get_or records p [])
-place_of_lem records p = get_d_map_all place_of records p []
-
 pub place_at : (bytes : List ℕ) (p : ℕ) → get_or (places_of bytes) p None ≡ place_of (get_or (records_of bytes) p [])
 unfolding places_of
-place_at bytes p = place_of_lem (records_of bytes) p
-
--- the places, from records that were cut from the bytes
-module _ (bytes : List ℕ) (records : List (List ℕ)) (cut : records ≡ records_of bytes) where
-  pub place_in : (p : ℕ) → get_or (places_of bytes) p None ≡ place_of (get_or records p [])
-  place_in p = place_at bytes p ∙ ap (λ (rs : List (List ℕ)). place_of (get_or rs p [])) (sym cut)
-
-  pub count_in : length (places_of bytes) ≡ length records
-  count_in = length_places bytes ∙ sym (length_records bytes) ∙ ap length (sym cut)
-
-  -- what holds of no record holds of no place
-  pub none_in : (test : Option Row → Bool) → ((k : ℕ) → k < length records → test (place_of (get_or records k [])) ≡ false) → any test (places_of bytes) ≡ false
-  none_in test none = any_none test (places_of bytes) None (λ k h. ap test (place_in k) ∙ none k (omega (arith, count_in)))
-
--- a place that passes the test for a row holds it
-pub is_row_lem : (row : Row) (place : Option Row) → is_row row place ≡ true → place ≡ Some row
-is_row_lem row None h = absurd (both_ways false refl h)
-is_row_lem row (Some held) h = ap Some (same_row_is held row h)
+place_at bytes p = map_read place_of (records_of bytes) p []
 
 -- the records are those of the places
 abbrev pub Exact : List ℕ → Type 0

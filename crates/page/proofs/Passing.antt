@@ -3,7 +3,8 @@ use Rattle.std.proofs.Common.{◌≡◌, ℕ, zero, suc, ◌/◌, ◌%◌, ◌<�
 use Rattle.std.proofs.lemmas.List.FromFn.{length-range_with_len, get_or-range_with_len}
 use Rattle.std.proofs.ByRecursion.{All-get_or}
 use Rattle.std.proofs.lemmas.List.{get_or-take}
-use Rattle.std.proofs.lemmas.Bool.{and_parts, both_ways, cases_Bool, cases_order, cond-true, cond-false, eqb-true, leb-true}
+use Rattle.std.proofs.lemmas.Option.{none-some}
+use Rattle.std.proofs.lemmas.Bool.{and_parts, both_ways, cases_order, cond-true, eqb-true, leb-true}
 use Rattle.std.specs.List.{range_with_len}
 use Rattle.fault.specs.Questions.{ask}
 use Rattle.store.specs.Lists.{all}
@@ -14,19 +15,16 @@ use Rattle.store.specs.declared.row.Row.{Row}
 use Rattle.store.proofs.Places.{inside, held_at}
 use Rattle.page.specs.Checks.{is_new, is_new_to, record_refusal, check_refusal, IsPage}
 use Rattle.page.specs.Pages.{records_of, places_of}
-use Rattle.page.specs.Records.{marks_row, is_marked, is_fit, row_in, place_of}
+use Rattle.page.specs.Records.{marks_row, is_marked, is_fit, row_in}
 use Rattle.page.specs.declared.refusal.Refusal.TheVariants.{NotWhole, TooLong}
 use Rattle.page.proofs.Numbers.{AreBytes}
 use Rattle.page.proofs.Chunks.{length_records, record_long, record_small}
-use Rattle.page.proofs.Exact.{record_exact}
+use Rattle.page.proofs.Exact.{held, record_exact}
 use Rattle.page.proofs.Pages.{length_places, place_at, exact_at, whole_from}
-
-pub never : {A : Type 0} {x : A} → Some x ≡ None → ⊥
-never e = let z : ◌≡◌ {A = ℕ} 0 1 = cc in omega arith
 
 asked : {E : Type 0} (answer : Bool) (refusal : E) (rest : Option E) → ask answer refusal rest ≡ None → (answer ≡ true) × (rest ≡ None)
 asked true refusal rest none = (refl, none)
-asked false refusal rest none = absurd (never none)
+asked false refusal rest none = absurd (none-some refusal (sym none))
 
 each_at : {A : Type 0} (test : A → Bool) (xs : List A) (d : A) → all test xs ≡ true → (k : ℕ) → k < length xs → test (get_or xs k d) ≡ true
 each_at test [] d passed k inside = absurd (omega arith)
@@ -36,13 +34,6 @@ each_at test (x ∷ xs) d passed (suc k) inside = each_at test xs d (and_parts (
 some_row : (place : Option Row) → is_some place ≡ true → (row : Row) × (place ≡ Some row)
 some_row None some = absurd (both_ways false refl some)
 some_row (Some row) some = (row, refl)
-
--- a record that holds a row is marked so
-held : (bytes : List ℕ) (row : Row) → place_of bytes ≡ Some row → (marks_row bytes ≡ true) × (row_in bytes ≡ row)
-held bytes row e = ⊎_elim
-    (λ (marked : marks_row bytes ≡ true). let f : Some (row_in bytes) ≡ Some row = sym (cond-true (marks_row bytes) (Some (row_in bytes)) None marked) ∙ e in (marked, cc))
-    (λ (other : marks_row bytes ≡ false). absurd (never (sym e ∙ cond-false (marks_row bytes) (Some (row_in bytes)) None other)))
-    (cases_Bool (marks_row bytes))
 
 -- bytes that pass, question by question
 module _ (bytes arities : List ℕ) (passes : check_refusal bytes arities ≡ None) where

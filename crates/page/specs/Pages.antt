@@ -1,11 +1,12 @@
 -- A page: its bytes as records, what stands at its places, and the bytes that places give.
-use Rattle.std.specs.Prelude.{◌≡◌, ℕ, ◌+◌, ◌*◌, ◌/◌, Bool, true, false, List, ◌++◌, map, length, take, drop, Option, ◌≢◌}
+use Rattle.std.specs.Prelude.{◌≡◌, ℕ, ◌+◌, ◌*◌, ◌/◌, List, ◌++◌, map, length, take, drop, Ok, Err, Option, Result, ◌≢◌}
 use Rattle.std.specs.Simd.{first_chunks}
 use Rattle.std.specs.List.{flat_map}
 use Rattle.store.specs.Rows.{arity_in}
 use Rattle.store.specs.Store.{Store}
 use Rattle.store.specs.declared.row.Row.{Row}
 use Rattle.page.specs.Records.{place_of, record_of}
+use Rattle.page.specs.declared.writing.WrongLength.{WrongLength}
 
 -- every 20 bytes are a record
 unfoldable pub records_of : List ℕ → List (List ℕ)
@@ -28,6 +29,6 @@ abbrev pub store_of : List ℕ → List ℕ → Store
 store_of bytes arities = record { arity = arity_in arities; places = places_of bytes }
 
 -- where the bytes have just the length of the page, they become the page of the places, whose places are these; and otherwise they stay as they are
-abbrev pub WriteSays : List (Option Row) → List ℕ → List ℕ → Bool → Type 0
-WriteSays places before after true = (length before ≡ 20 * length places) × (after ≡ page_of places) × (places_of after ≡ places)
-WriteSays places before after false = (length before ≢ 20 * length places) × (after ≡ before)
+abbrev pub WriteSays : List (Option Row) → List ℕ → List ℕ → Result (Unit {0}) WrongLength → Type 0
+WriteSays places before after (Ok _) = (length before ≡ 20 * length places) × (after ≡ page_of places) × (places_of after ≡ places)
+WriteSays places before after (Err _) = (length before ≢ 20 * length places) × (after ≡ before)

@@ -4,8 +4,9 @@ ghost use Rattle.page.specs.Checks.{check_refusal};
 ghost use Rattle.page.specs.Faces.{finding_of};
 
 use crate::checking::check;
+use fault::Notice;
 
-// What the check found: the number of the refusal, or 0 for a page, and the position.
+// What the check found, in two numbers, since C has no `Result`: the number of the refusal, or 0 for a page, and the position.
 #[repr(C)]
 #[derive(Clone, Copy)]
 pub struct Finding {
@@ -23,7 +24,7 @@ pub fn page_check(bytes: &[u8], arities: &[u8]) -> Finding
             position: 0,
         },
         Err(refusal) => {
-            let notice = refusal.notice();
+            let notice = Notice::from(refusal);
             Finding {
                 number: notice.number,
                 position: notice.position,

@@ -19,4 +19,4 @@ pub use checking::check;
 pub use face::{Finding, page_check};
 pub use refusal::Refusal;
 pub use source::Page;
-pub use writing::write_page;
+pub use writing::{WrongLength, write_page};

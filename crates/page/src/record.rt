@@ -1,13 +1,17 @@
-// A record of a page, read: 20 bytes that hold a row or nothing.
-ghost use Rattle.std.specs.Prelude.{◌≡◌, ◌<◌};
-ghost use Rattle.store.specs.Lists.{same_numbers};
-ghost use Rattle.store.specs.Store.{is_row};
+// A record of a page: 20 bytes that hold a row or nothing.
+ghost use Rattle.std.specs.Prelude.{◌≡◌};
 ghost use Rattle.page.specs.Pages.{records_of};
-ghost use Rattle.page.specs.Records.{marks_row, is_marked, two_at, four_at, row_in, place_of};
+ghost use Rattle.page.specs.Records.{marks_row, is_marked, place_of};
 
+use std::array;
 use store::Row;
 
 pub type Record = [u8; 20];
+
+// A record starts with one of these marks.
+pub const ROW: [u8; 2] = [0x49, 0x43];
+
+pub const EMPTY: [u8; 2] = [0x2E, 0x2E];
 
 // The whole records that the bytes have.
 pub fn records_in(bytes: &[u8]) -> &[Record]
@@ -21,75 +25,27 @@ pub fn records_in(bytes: &[u8]) -> &[Record]
 pub fn is_row(record: &Record) -> bool
     ensures { result ≡ marks_row «record».now }
 {
-    record[0] == 0x49 && record[1] == 0x43
+    record.starts_with(&ROW)
 }
 
 // Whether the record is marked as a row or as an empty place.
 pub fn is_marked(record: &Record) -> bool
     ensures { result ≡ is_marked «record».now }
 {
-    is_row(record) || (record[0] == 0x2E && record[1] == 0x2E)
-}
-
-// The relation in a row's record.
-pub fn relation_in(record: &Record) -> u16
-    ensures { result ≡ two_at «record».now 2 }
-{
-    u16::from_be_bytes([record[2], record[3]])
-}
-
-// The column that starts at this byte of a row's record.
-fn column_at(record: &Record, start: usize) -> u32
-    requires { start < 17 }
-    ensures { result ≡ four_at «record».now start }
-{
-    u32::from_be_bytes([
-        record[start],
-        record[start + 1],
-        record[start + 2],
-        record[start + 3],
-    ])
-}
-
-// The columns in a row's record.
-pub fn columns_in(record: &Record) -> [u32; 4]
-    ensures { result ≡ (row_in «record».now).columns }
-{
-    [
-        column_at(record, 4),
-        column_at(record, 8),
-        column_at(record, 12),
-        column_at(record, 16),
-    ]
+    is_row(record) || record.starts_with(&EMPTY)
 }
 
 // What stands at the record's place.
 pub fn decode(record: &Record) -> Option<Row>
     ensures { result ≡ place_of «record».now }
 {
-    if is_row(record) {
-        Some(Row {
-            relation: relation_in(record),
-            columns: columns_in(record),
-        })
-    } else {
-        None
+    if !is_row(record) {
+        return None;
     }
-}
-
-// Whether a row's record has these columns.
-fn has_columns(record: &Record, columns: &[u32; 4]) -> bool
-    ensures { result ≡ same_numbers (row_in «record».now).columns columns.now }
-{
-    column_at(record, 4) == columns[0]
-        && column_at(record, 8) == columns[1]
-        && column_at(record, 12) == columns[2]
-        && column_at(record, 16) == columns[3]
-}
-
-// Whether the record holds the row; it reads no further than the first part that differs.
-pub fn holds(record: &Record, row: &Row) -> bool
-    ensures { result ≡ is_row row.now (place_of «record».now) }
-{
-    is_row(record) && relation_in(record) == row.relation && has_columns(record, &row.columns)
+    // The first four bytes are the mark and the relation, and each column is four more.
+    let (words, _) = record.as_chunks::<4>();
+    Some(Row {
+        relation: u16::from_be_bytes([record[2], record[3]]),
+        columns: array::from_fn(|column| u32::from_be_bytes(words[column + 1])),
+    })
 }

@@ -4,7 +4,7 @@ ghost use Rattle.page.specs.Refusals.{notice_of};
 
 use fault::Notice;
 
-#[derive(Clone, Copy)]
+#[derive(Clone, Copy, Debug, PartialEq, Eq)]
 pub enum Refusal {
     // The bytes are not a whole number of records.
     NotWhole,
@@ -18,12 +18,12 @@ pub enum Refusal {
     Repeated(usize),
 }
 
-impl Refusal {
-    // The number, layer and position that a person is told.
-    pub fn notice(self) -> Notice
-        ensures { result ≡ notice_of self }
-    {
-        match self {
+// The number, layer and position that a person is told.
+impl From<Refusal> for Notice {
+    ghost from_gives = { λ refusal notice. notice ≡ notice_of refusal };
+
+    fn from(refusal: Refusal) -> Notice {
+        match refusal {
             Refusal::NotWhole => Notice::new(51, 0),
             Refusal::TooLong => Notice::new(52, 0),
             Refusal::Unmarked(place) => Notice::new(53, place),

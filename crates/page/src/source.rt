@@ -7,9 +7,9 @@ ghost use Rattle.page.specs.Checks.{check_refusal};
 ghost use Rattle.page.specs.Pages.{store_of, places_of, page_of};
 
 use crate::checking::check;
-use crate::encoding::{empty, encode, write_record};
-use crate::record::{decode, holds, is_row, records_in};
-use store::{Refusal, Row, Source, arity_in, zero_from};
+use crate::encoding::{encode_row, write_place};
+use crate::record::{decode, is_row, records_in};
+use store::{Refusal, Row, Source, admit, arity_in, declared};
 
 #[derive(Drop)]
 pub struct Page<'a> {
@@ -23,17 +23,6 @@ pub struct Page<'a> {
     ghost once: { OnceIn (places_of bytes.now) },
 }
 
-// The arities that the bytes give the relations 0 to 15.
-fn declared(arities: &[u8]) -> [u8; 16]
-    ensures { (relation : ℕ) → arity_in result relation ≡ arity_in arities.now relation }
-{
-    let mut declared = [0; 16];
-    for relation in 0..16u16 {
-        declared[relation as usize] = arity_in(arities, relation);
-    }
-    declared
-}
-
 impl<'a> Page<'a> {
     ghost use Rattle.page.specs.Sources.{page_model, opened};
 
@@ -45,7 +34,7 @@ impl<'a> Page<'a> {
         ensures lent { check_refusal bytes.old arities.now ≡ None → result.bytes.ghost_name ≡ bytes.entry.ghost_name }
     {
         let arities = declared(arities);
-        if let Err(_) = check(bytes, &arities) {
+        if check(bytes, &arities).is_err() {
             let bytes = &mut bytes[0..0];
             return Page { arities, bytes };
         }
@@ -56,13 +45,9 @@ impl<'a> Page<'a> {
     fn vacant(&self) -> Option<usize>
         ensures { VacantSays (page_model self.now).places result }
     {
-        let records = records_in(self.bytes);
-        for (place, record) in records.iter().enumerate() {
-            if !is_row(record) {
-                return Some(place);
-            }
-        }
-        None
+        records_in(self.bytes)
+            .iter()
+            .position(|record| !is_row(record))
     }
 }
 
@@ -80,53 +65,31 @@ impl<'a> Source for Page<'a> {
     }
 
     fn places(&self) -> usize {
-        self.bytes.len() / 20
+        records_in(self.bytes).len()
     }
 
     fn read(&self, place: usize) -> Option<Row> {
-        let records = records_in(self.bytes);
-        if place < records.len() {
-            decode(&records[place])
-        } else {
-            None
-        }
+        decode(records_in(self.bytes).get(place)?)
     }
 
+    // A row has one record, so this looks for its bytes.
     fn find(&self, row: &Row) -> Option<usize> {
-        let records = records_in(self.bytes);
-        for (place, record) in records.iter().enumerate() {
-            if holds(record, row) {
-                return Some(place);
-            }
-        }
-        None
+        let sought = encode_row(row);
+        records_in(self.bytes)
+            .iter()
+            .position(|record| *record == sought)
     }
 
     fn put(&mut self, row: &Row) -> Result<usize, Refusal> {
-        let arity = self.arity(row.relation);
-        if arity == 0 {
-            return Err(Refusal::Undeclared);
-        }
-        if !zero_from(arity, &row.columns) {
-            return Err(Refusal::Unfit);
-        }
-        if let Some(_) = self.find(row) {
-            return Err(Refusal::AlreadyHeld);
-        }
-        let Some(place) = self.vacant() else {
-            return Err(Refusal::NoEmptyPlace);
-        };
-        let record = encode(row);
-        write_record(self.bytes, place, &record);
+        admit(self.arity(row.relation), row, self.find(row))?;
+        let place = self.vacant().ok_or(Refusal::NoEmptyPlace)?;
+        write_place(self.bytes, place, Some(*row));
         Ok(place)
     }
 
     fn strike(&mut self, row: &Row) -> Result<usize, Refusal> {
-        let Some(place) = self.find(row) else {
-            return Err(Refusal::NotHeld);
-        };
-        let blank = empty();
-        write_record(self.bytes, place, &blank);
+        let place = self.find(row).ok_or(Refusal::NotHeld)?;
+        write_place(self.bytes, place, None);
         Ok(place)
     }
 }

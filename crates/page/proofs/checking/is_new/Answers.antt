@@ -1,22 +1,24 @@
-use Rattle.std.proofs.Common.{◌≡◌, ℕ, ◌-◌, not, map, take, sym, ap, ◌∙◌}
-use native.Mathlib.Nat.{sub-zero}
-use Rattle.std.proofs.lemmas.List.{take-map}
+use Rattle.std.proofs.Common.{ℕ, List, [], Bool, not, length, get_or, take, sym, ap, ◌∙◌, arith}
+use Rattle.std.specs.Str.{bytes_eq}
 use Rattle.store.specs.Lists.{any}
-use Rattle.store.specs.Store.{is_row}
-use Rattle.page.specs.Checks.{is_new_to}
-use Rattle.page.specs.Records.{place_of}
-use Rattle.page.proofs.Pages.{place_of_lem}
+use Rattle.page.specs.Records.{marks_row}
+use Rattle.page.proofs.Chunks.{length_records}
+use Rattle.page.proofs.Repeats.{new_elsewhere, new_by_records}
 use Rattle.page.proofs.checking.is_new.Goals as goal
 
-pub returns-in-Some : goal.returns-in-Some
-returns-in-Some c =
-    let records = c.args.records.now in
-    let place = c.args.place in
-    let earlier : map place_of (take (place - 0) records) ≡ take place (map place_of records) = ap (λ (n : ℕ). map place_of (take n records)) (sub-zero place) ∙ sym (take-map place_of place records) in
-    ap not (c.stands_in.ensures ∙ ap (any (is_row c.in-Some.row)) earlier) ∙ ap (is_new_to (take place (map place_of records))) (c.in-Some.ensures ∙ sym (place_of_lem records place))
+pub bounds-records-place : goal.bounds-records-place
+bounds-records-place c = omega (arith, ap length c.records_in-records.ensures, length_records c.args.bytes.now)
 
-pub returns-in-None : goal.returns-in-None
-returns-in-None c =
-    let records = c.args.records.now in
+pub returns-then-not-is_row : goal.returns-then-not-is_row
+returns-then-not-is_row c =
     let place = c.args.place in
-    ap (is_new_to (take place (map place_of records))) (c.in-None.ensures ∙ sym (place_of_lem records place))
+    ap not c.if-not-is_row.true ∙ sym (new_elsewhere c.args.bytes.now place (ap (λ (rs : List (List ℕ)). marks_row (get_or rs place [])) (sym c.records_in-records.ensures) ∙ sym c.is_row.ensures ∙ c.if-not-is_row.true))
+
+pub returns-else-not-is_row : goal.returns-else-not-is_row
+returns-else-not-is_row c =
+    let place = c.args.place in
+    let cut = c.records_in-records.ensures in
+    let marked = ap (λ (rs : List (List ℕ)). marks_row (get_or rs place [])) (sym cut) ∙ sym c.is_row.ensures ∙ c.if-not-is_row.false in
+    let earlier : List (List ℕ) → Bool = λ rs. any (λ (r : List ℕ). bytes_eq r (get_or rs place [])) (take place rs) in
+    ap not (c.contains.ensures.value ∙ ap earlier cut)
+    ∙ sym (new_by_records c.args.bytes.now place (λ i. (c.type_inv.bytes i).fits) c.requires marked)

@@ -1,14 +1,12 @@
-use Rattle.std.proofs.Common.{sym, ap, ◌∙◌, arith}
-use Rattle.std.proofs.lemmas.Bool.{cond-true, cond-false}
-use Rattle.store.specs.Store.{is_empty}
-use Rattle.page.proofs.Pages.{place_in, count_in, none_in}
+use Rattle.std.proofs.Common.{not, rules}
+use Rattle.store.proofs.Firsts.{first_from_position}
+use Rattle.store.proofs.Looked.{vacant_at}
+use Rattle.page.specs.Pages.{places_of}
+use Rattle.page.specs.Records.{marks_row}
+use Rattle.page.proofs.Looks.{first_empty}
 use Rattle.page.proofs.source.Page.vacant.Goals as goal
 
-pub returns-then-not-is_row : goal.returns-then-not-is_row
-returns-then-not-is_row c =
-    let bytes = c.args.self.now.bytes.now in
-    let cut = c.records_in-records.ensures in
-    (omega (arith, count_in bytes _ cut), place_in bytes _ cut c.loop-place.place ∙ cond-false _ _ _ (sym c.if-not-is_row.ensures))
-
 pub returns : goal.returns
-returns c = none_in c.args.self.now.bytes.now _ c.records_in-records.ensures is_empty (λ k h. ap is_empty (cond-true _ _ _ (c.loop-place.invariant k (omega arith))))
+returns c =
+    let bytes = c.args.self.now.bytes.now in
+    vacant_at (places_of bytes) _ (first_empty bytes _ c.records_in.ensures _ (first_from_position (λ r. not (marks_row r)) _ c.position.ensures.ran c.iter.ensures.rest (λ x b q k. search rules)))

@@ -1,13 +1,14 @@
-use Rattle.std.proofs.Common.{sym, ◌∙◌, arith}
-use Rattle.store.specs.Store.{is_row}
-use Rattle.page.proofs.Pages.{place_in, count_in, none_in, is_row_lem}
+use Rattle.std.proofs.Common.{rules}
+use Rattle.std.specs.Str.{bytes_eq}
+use Rattle.store.proofs.Firsts.{first_from_position}
+use Rattle.store.proofs.Looked.{found}
+use Rattle.page.specs.Sources.{page_model}
+use Rattle.page.proofs.Looks.{first_row}
 use Rattle.page.proofs.source.PageSource.find.Goals as goal
 
-pub returns-then-holds : goal.returns-then-holds
-returns-then-holds c =
-    let bytes = c.args.self.now.bytes.now in
-    let cut = c.records_in-records.ensures in
-    (omega (arith, count_in bytes _ cut), place_in bytes _ cut c.loop-place.place ∙ is_row_lem c.args.row.now _ (sym c.if-holds.ensures))
-
 pub returns : goal.returns
-returns c = none_in c.args.self.now.bytes.now _ c.records_in-records.ensures (is_row c.args.row.now) (λ k h. c.loop-place.invariant k (omega arith))
+returns c =
+    let p = c.args.self.now in
+    let of_row = c.encode_row-sought.ensures in
+    found (page_model p) _ _ (first_row p.bytes.now _ c.records_in.ensures _ p.whole c.args.row.now _ of_row.bytes of_row.back
+    (first_from_position (λ r. bytes_eq r c.encode_row-sought.result) _ c.position.ensures.ran c.iter.ensures.rest (λ x b q k. search rules)))

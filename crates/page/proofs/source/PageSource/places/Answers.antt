@@ -1,6 +1,7 @@
-use Rattle.std.proofs.Common.{sym}
+use Rattle.std.proofs.Common.{length, sym, ap, ◌∙◌}
+use Rattle.page.proofs.Chunks.{length_records}
 use Rattle.page.proofs.Pages.{length_places}
 use Rattle.page.proofs.source.PageSource.places.Goals as goal
 
 pub returns : goal.returns
-returns c = sym (length_places c.args.self.now.bytes.now)
+returns c = let bytes = c.args.self.now.bytes.now in ap length c.records_in.ensures ∙ length_records bytes ∙ sym (length_places bytes)

@@ -1,67 +1,62 @@
-use Rattle.std.proofs.Common.{◌≡◌, ℕ, true, List, is_some, Some, None, sym, refl, ap, ◌∙◌, subst, arith}
-use Rattle.std.proofs.lemmas.Bool.{lt-ltb}
-use Rattle.store.specs.Rows.{zero_from}
-use Rattle.store.specs.Store.{declares, ends_in_zeros, is_empty}
-use Rattle.store.proofs.Asked.{already, full, granted}
-use Rattle.store.proofs.Places.{held_at}
+use Rattle.std.proofs.Common.{◌≡◌, ℕ, false, true, List, Some, None, Err, is_some, sym, refl, ap, ◌∙◌, subst, arith}
+use Rattle.std.specs.Result.{result_err, result_ok}
+use Rattle.std.proofs.lemmas.Result.{err_from_is_err_and}
+use Rattle.store.specs.Store.{PutSays, admission, declares, ends_in_zeros, holds, is_empty}
+use Rattle.store.specs.Tables.{VacantSays}
+use Rattle.store.proofs.Asked.{barred, admitted, granted}
 use Rattle.store.proofs.Scans.{any_here}
 use Rattle.page.specs.Checks.{IsPage}
-use Rattle.page.specs.Pages.{places_of, written}
-use Rattle.page.specs.Records.{record_of}
+use Rattle.page.specs.Pages.{places_of}
 use Rattle.page.specs.Sources.{page_model}
 use Rattle.page.proofs.Kept.{page_put, places_put}
 use Rattle.page.proofs.Pages.{length_places}
-use Rattle.page.proofs.Standing.{is_page}
+use Rattle.page.proofs.Standing.{is_page, carried}
 use Rattle.page.proofs.source.PageSource.put.Goals as goal
-use Rattle.page.proofs.source.PageSource.put.Goals.{Else-not-zero_from}
+use Rattle.page.proofs.source.PageSource.put.Goals.{In_ok-admit, In_ok-place}
 
--- the first two questions were answered Yes
-declared : (c : Else-not-zero_from) → declares (page_model c.args.self.now) c.args.row.now ≡ true
-declared c = lt-ltb 0 _ (let e = c.arity-arity.ensures in omega (arith, c.if-arity-eq0.false))
-
-ends : (c : Else-not-zero_from) → ends_in_zeros (page_model c.args.self.now) c.args.row.now ≡ true
-ends c = ap (λ n. zero_from n c.args.row.now.columns) (sym c.arity-arity.ensures) ∙ sym c.if-not-zero_from.ensures
-
-pub returns-in-Some : goal.returns-in-Some
-returns-in-Some c =
-    let p = c.args.self.now in
+pub returns-in_err-admit-clause-says : goal.returns-in_err-admit-clause-says
+returns-in_err-admit-clause-says c =
+    let s = page_model c.args.self.now in
     let row = c.args.row.now in
-    let so = (goal.at.returns-in-Some c).Else-not-zero_from in
-    record { anchor = refl; says = (refl, already (page_model p) row (declared so) (ends so) (held_at (places_of p.bytes.now) _ row c.in-Some.ensures.1)) }
+    let p = err_from_is_err_and c.from_residual.result c.from_residual.ensures.1 in
+    let asked = ap (λ n. admission n row (is_some c.find.result)) (sym c.arity.ensures) ∙ sym c.admit.ensures ∙ ap result_err c.in_err-admit.was in
+    subst (PutSays s s row) (sym (p.1 ∙ ap Err p.2)) (refl, barred s row c.find.result c.find.ensures _ asked)
 
-pub returns-in_default-vacant : goal.returns-in_default-vacant
-returns-in_default-vacant c =
-    let p = c.args.self.now in
-    let so = (goal.at.returns-in_default-vacant c).Else-not-zero_from in
-    record { anchor = refl; says = (refl, full (page_model p) c.args.row.now (declared so) (ends so) c.in_default.ensures c.in_default-vacant.ensures) }
+-- the first three questions were answered Yes
+passed : (c : In_ok-admit) → (declares (page_model c.args.self.now) c.args.row.now ≡ true) × (ends_in_zeros (page_model c.args.self.now) c.args.row.now ≡ true) × (holds (page_model c.args.self.now) c.args.row.now ≡ false)
+passed c =
+    let row = c.args.row.now in
+    admitted (page_model c.args.self.now) row c.find.result c.find.ensures (ap (λ n. admission n row (is_some c.find.result)) (sym c.arity.ensures) ∙ sym c.admit.ensures ∙ ap result_err c.in_ok-admit.was)
 
-pub write_record-requires : goal.write_record-requires
-write_record-requires c = omega (arith, c.in-Some-vacant.ensures.0, length_places c.args.self.now.bytes.now)
+-- the place is empty
+vacant : (c : In_ok-place) → VacantSays (places_of c.args.self.now.bytes.now) (Some c.in_ok-place.place)
+vacant c = subst (VacantSays (places_of c.args.self.now.bytes.now)) (c.ok_or.ensures.ok_part ∙ ap result_ok c.in_ok-place.was) c.vacant.ensures
 
-pub returns : goal.returns
-returns c =
+pub write_place-requires : goal.write_place-requires
+write_place-requires c = omega (arith, (vacant (goal.at.write_place-requires c).In_ok-place).0, length_places c.args.self.now.bytes.now)
+
+pub returns-clause-says : goal.returns-clause-says
+returns-clause-says c =
     let p = c.args.self.now in
     let bytes = p.bytes.now in
     let row = c.args.row.now in
-    let place = c.in-Some-vacant.place in
-    let so = (goal.at.returns c).Else-not-zero_from in
-    let (inside, none) = c.in-Some-vacant.ensures in
-    let proper = c.encode-record.ensures.proper in
-    let free = c.in_default.ensures in
-    let some_empty = any_here is_empty (places_of bytes) place None inside (ap is_empty none) in
-    let anew : c.write_record.new.bytes ≡ written bytes place (record_of (Some row)) = c.write_record.ensures ∙ ap (written bytes place) c.encode-record.ensures.bytes in
+    let place = c.in_ok-place.place in
+    let (declared, ends, free) = passed (goal.at.returns-clause-says c).In_ok-admit in
+    let (inside, none) = vacant (goal.at.returns-clause-says c).In_ok-place in
+    let wrote = c.write_place.ensures in
     record {
-      anchor = refl;
-      says = record { granted = granted (page_model p) row (declared so) (ends so) free some_empty; inside = inside; empty = none; arities = refl; stands = ap places_of anew ∙ places_put bytes p.arities (is_page p) place inside row proper };
+      granted = granted (page_model p) row declared ends free (any_here is_empty (places_of bytes) place None inside (ap is_empty none));
+      inside = inside;
+      empty = none;
+      arities = refl;
+      stands = ap places_of wrote.bytes ∙ places_put bytes p.arities (is_page p) place inside row wrote.back wrote.long;
     }
 
 pub invariant_of-self : goal.invariant_of-self
 invariant_of-self c =
     let p = c.args.self.now in
-    let bytes = p.bytes.now in
-    let row = c.args.row.now in
-    let place = c.in-Some-vacant.place in
-    let so = (goal.at.invariant_of-self c).Else-not-zero_from in
-    let anew : c.write_record.new.bytes ≡ written bytes place (record_of (Some row)) = c.write_record.ensures ∙ ap (written bytes place) c.encode-record.ensures.bytes in
-    let page = subst (λ (bs : List ℕ). IsPage bs p.arities) (sym anew) (page_put bytes p.arities (is_page p) place c.in-Some-vacant.ensures.0 row c.encode-record.ensures.proper (declared so) (ends so) c.in_default.ensures) in
-    record { passes = ap is_some page.passes; whole = page.whole; few = page.kept.few; fit = page.kept.fit; once = page.kept.once }
+    let (declared, ends, free) = passed (goal.at.invariant_of-self c).In_ok-admit in
+    let inside = (vacant (goal.at.invariant_of-self c).In_ok-place).0 in
+    let wrote = c.write_place.ensures in
+    carried _ p.arities (subst (λ (bytes : List ℕ). IsPage bytes p.arities) (sym wrote.bytes)
+    (page_put p.bytes.now p.arities (is_page p) c.in_ok-place.place inside c.args.row.now wrote.back wrote.long declared ends free))
