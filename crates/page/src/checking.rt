@@ -35,6 +35,7 @@ pub fn check(bytes: &[u8], arities: &[u8]) -> Result<(), Refusal>
         return Err(Refusal::TooLong);
     }
     let records = records_in(bytes);
+    // The first record that fails a question is told; `map_or(Ok(()), ..)?` would say no more than each `if let`.
     if let Some(place) = records.iter().position(|record| !is_marked(record)) {
         return Err(Refusal::Unmarked(place));
     }
