@@ -39,10 +39,10 @@ fn what_passes_stays(rt: HostRuntime) {
 
 #[test]
 fn columns_decide_in_turn(rt: HostRuntime) {
-    assert!(rt; [1, 2] < [1, 3]);
+    assert_eq!(rt; [1, 2].as_slice().cmp(&[1, 3].as_slice()), Ordering::Less);
     assert_eq!(rt;
         [1, 2, 0].as_slice().cmp(&[1, 2].as_slice()),
         Ordering::Greater
     );
-    assert_eq!(rt; [7].cmp(&[7]), Ordering::Equal);
+    assert_eq!(rt; [7].as_slice().cmp(&[7].as_slice()), Ordering::Equal);
 }
