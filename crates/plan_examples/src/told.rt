@@ -2,7 +2,7 @@
 use crate::nodes::*;
 use fault::Notice;
 use plan::{Field, Node, Op, Plan, Side};
-use std::io;
+use std::{array, io};
 use store::Sign;
 
 // Says how wide the plan of these nodes is, or why they make none.
@@ -27,21 +27,19 @@ fn tell(rt: &HostRuntime, name: &str, nodes: &[Node]) -> io::Result<()> {
 
 // A leaf, and choices one over the other.
 fn tower() -> [Node; 16] {
-    let mut nodes = [open(0, 1); 16];
-    for k in 1..16u8 {
-        nodes[k as usize] = choice(k - 1, Side::Column(0), Sign::Greater, Side::Constant(0));
-    }
-    nodes
+    array::from_fn(|k| match k as u8 {
+        0 => open(0, 1),
+        k => choice(k - 1, Side::Column(0), Sign::Greater, Side::Constant(0)),
+    })
 }
 
 // Seven leaves, and the union of them all.
 fn seven() -> [Node; 13] {
-    let mut nodes = [open(0, 1); 13];
-    nodes[7] = pair(Op::Union, 0, 1);
-    for k in 8..13u8 {
-        nodes[k as usize] = pair(Op::Union, k - 1, k - 6);
-    }
-    nodes
+    array::from_fn(|k| match k as u8 {
+        0..=6 => open(0, 1),
+        7 => pair(Op::Union, 0, 1),
+        k => pair(Op::Union, k - 1, k - 6),
+    })
 }
 
 // Plans that are accepted.
