@@ -2,6 +2,7 @@
 ghost use Rattle.std.specs.Prelude.{◌≡◌};
 ghost use Rattle.store.specs.Store.{PutSays};
 ghost use Rattle.page_examples.specs.Entering.{EnterSays};
+ghost use Rattle.page_examples.specs.declared.entering.Hindrance.TheVariants.{NoPage, NoRow};
 
 use page::{Page, check};
 use store::{Row, Source};
@@ -13,6 +14,22 @@ pub enum Hindrance {
     NoPage(page::Refusal),
     // The page does not take the row.
     NoRow(store::Refusal),
+}
+
+impl From<page::Refusal> for Hindrance {
+    ghost from_gives = { λ refusal why. why ≡ NoPage refusal };
+
+    fn from(refusal: page::Refusal) -> Hindrance {
+        Hindrance::NoPage(refusal)
+    }
+}
+
+impl From<store::Refusal> for Hindrance {
+    ghost from_gives = { λ refusal why. why ≡ NoRow refusal };
+
+    fn from(refusal: store::Refusal) -> Hindrance {
+        Hindrance::NoRow(refusal)
+    }
 }
 
 // Puts the row into a source of any kind; it stands for code that knows nothing of pages.
@@ -28,12 +45,8 @@ fn put_into<S: Source>(source: &mut S, row: &Row) -> Result<usize, store::Refusa
 pub fn enter(arities: &[u8], bytes: &mut [u8], row: &Row) -> Result<usize, Hindrance>
     ensures { EnterSays bytes.old bytes.new arities.now row.now result }
 {
-    if let Err(refusal) = check(bytes, arities) {
-        return Err(Hindrance::NoPage(refusal));
-    }
+    check(bytes, arities)?;
     let mut page = Page::open(arities, bytes);
-    match put_into(&mut page, row) {
-        Ok(place) => Ok(place),
-        Err(refusal) => Err(Hindrance::NoRow(refusal)),
-    }
+    let place = put_into(&mut page, row)?;
+    Ok(place)
 }

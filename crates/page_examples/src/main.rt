@@ -4,9 +4,9 @@
 mod entering;
 mod showing;
 
-use entering::enter;
+use entering::{Hindrance, enter};
 use page::{Page, write_page};
-use showing::{show_bytes, show_check, show_entry, show_rows, tell};
+use showing::{show_bytes, show_check, show_rows, tell};
 use std::io;
 use store::{Row, Source};
 
@@ -21,32 +21,36 @@ fn pair(relation: u16, first: u32, second: u32) -> Row {
 // Puts and strikes rows, and tells what the page answered.
 fn change(rt: &HostRuntime, arities: &[u8], bytes: &mut [u8]) -> io::Result<()> {
     let mut page = Page::open(arities, bytes);
-    let told = page.put(&pair(0, 7, 258));
-    tell(rt, "put 0: 7 258", told)?;
-    let told = page.put(&pair(1, 4294967295, 0));
-    tell(rt, "put 1: 4294967295", told)?;
-    let told = page.put(&pair(0, 7, 258));
-    tell(rt, "put 0: 7 258", told)?;
-    let told = page.put(&pair(1, 5, 6));
-    tell(rt, "put 1: 5 6", told)?;
-    let told = page.put(&pair(2, 5, 6));
-    tell(rt, "put 2: 5 6", told)?;
-    let told = page.strike(&pair(0, 7, 258));
-    tell(rt, "strike 0: 7 258", told)?;
-    let told = page.strike(&pair(0, 7, 258));
-    tell(rt, "strike 0: 7 258", told)
+    for (asked, row) in [
+        ("put 0: 7 258", pair(0, 7, 258)),
+        ("put 1: 4294967295", pair(1, 4294967295, 0)),
+        ("put 0: 7 258", pair(0, 7, 258)),
+        ("put 1: 5 6", pair(1, 5, 6)),
+        ("put 2: 5 6", pair(2, 5, 6)),
+    ] {
+        tell(rt, asked, page.put(&row).map_err(Hindrance::from))?;
+    }
+    for row in [pair(0, 7, 258); 2] {
+        tell(
+            rt,
+            "strike 0: 7 258",
+            page.strike(&row).map_err(Hindrance::from),
+        )?;
+    }
+    Ok(())
 }
 
 // Puts rows by a call that takes the bytes.
 fn fill(rt: &HostRuntime, arities: &[u8], bytes: &mut [u8]) -> io::Result<()> {
-    let told = enter(arities, bytes, &pair(0, 1, 2));
-    show_entry(rt, "enter 0: 1 2", told)?;
-    let told = enter(arities, bytes, &pair(0, 1, 2));
-    show_entry(rt, "enter 0: 1 2", told)?;
-    let told = enter(arities, bytes, &pair(3, 8, 8));
-    show_entry(rt, "enter 3: 8 8", told)?;
-    let told = enter(arities, bytes, &pair(0, 1, 3));
-    show_entry(rt, "enter 0: 1 3", told)
+    for (asked, row) in [
+        ("enter 0: 1 2", pair(0, 1, 2)),
+        ("enter 0: 1 2", pair(0, 1, 2)),
+        ("enter 3: 8 8", pair(3, 8, 8)),
+        ("enter 0: 1 3", pair(0, 1, 3)),
+    ] {
+        tell(rt, asked, enter(arities, bytes, &row))?;
+    }
+    Ok(())
 }
 
 fn main(rt: HostRuntime) -> io::Result<()> {
@@ -64,10 +68,7 @@ fn main(rt: HostRuntime) -> io::Result<()> {
     show_rows(&rt, &arities, &mut bytes)?;
     bytes[41] = 0;
     show_check(&rt, &arities, &bytes)?;
-    show_entry(
-        &rt,
-        "enter 0: 5 5",
-        enter(&arities, &mut bytes, &pair(0, 5, 5)),
-    )?;
+    let told = enter(&arities, &mut bytes, &pair(0, 5, 5));
+    tell(&rt, "enter 0: 5 5", told)?;
     show_rows(&rt, &arities, &mut bytes)
 }

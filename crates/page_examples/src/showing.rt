@@ -1,8 +1,9 @@
 // What a person sees: bytes in hex, one record a line, rows, and what was answered.
 use crate::entering::Hindrance;
+use fault::Notice;
 use page::{Page, check};
 use std::io;
-use store::{Refusal, Source};
+use store::Source;
 
 // Prints a record's bytes in hex: its mark, its relation and its four columns.
 fn show_record(rt: &HostRuntime, record: &[u8; 20]) -> io::Result<()> {
@@ -49,7 +50,7 @@ pub fn show_check(rt: &HostRuntime, arities: &[u8], bytes: &[u8]) -> io::Result<
     match check(bytes, arities) {
         Ok(()) => println!(rt; "it is a page"),
         Err(refusal) => {
-            let notice = refusal.notice();
+            let notice = Notice::from(refusal);
             println!(rt;
                 "it is no page: refusal {} at record {}",
                 notice.number, notice.position
@@ -58,25 +59,17 @@ pub fn show_check(rt: &HostRuntime, arities: &[u8], bytes: &[u8]) -> io::Result<
     }
 }
 
-// Prints what a source answered.
-pub fn tell(rt: &HostRuntime, asked: &str, told: Result<usize, Refusal>) -> io::Result<()> {
-    match told {
-        Ok(place) => println!(rt; "{asked}: place {place}"),
-        Err(refusal) => println!(rt; "{asked}: refusal {}", refusal.notice().number),
-    }
-}
-
-// Prints what became of a row that was to be entered.
-pub fn show_entry(rt: &HostRuntime, asked: &str, told: Result<usize, Hindrance>) -> io::Result<()> {
+// Prints what became of a row.
+pub fn tell(rt: &HostRuntime, asked: &str, told: Result<usize, Hindrance>) -> io::Result<()> {
     match told {
         Ok(place) => println!(rt; "{asked}: place {place}"),
         Err(Hindrance::NoPage(refusal)) => println!(rt;
             "{asked}: no page, refusal {}",
-            refusal.notice().number
+            Notice::from(refusal).number
         ),
         Err(Hindrance::NoRow(refusal)) => println!(rt;
             "{asked}: refusal {}",
-            refusal.notice().number
+            Notice::from(refusal).number
         ),
     }
 }
