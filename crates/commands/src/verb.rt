@@ -11,7 +11,7 @@ pub enum Verb {
 }
 
 impl Verb {
-    // The verb that a word is, if it is one.
+    // The verb that a word is, if it is one. An `Option`, since the error of a `TryFrom` would say nothing more.
     #[tactic(auto, using(crate::proofs::Verbs::told))]
     pub fn of(word: &[u8]) -> Option<Verb>
         ensures { result ≡ verb_of word.now }

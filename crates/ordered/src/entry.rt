@@ -1,4 +1,6 @@
 // Entering an item into an ordered list.
+//
+// A slice and a count stand beside each other here, since the memory is the caller's, of any size.
 ghost use Rattle.std.specs.Prelude.{◌≡◌, ◌+◌, ◌<◌, ◌≤◌, length, take, drop, MatchResult};
 ghost use Rattle.std.specs.List.{insert};
 ghost use Rattle.ordered.specs.Promises.{Enters, Refuses};
