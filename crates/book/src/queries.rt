@@ -52,11 +52,7 @@ fn rows_at<S: Source>(source: &S, places: &[u16]) -> Few<Row, 3>
     requires { length places.now ≤ 3 }
     ensures { items_in result ≡ rows_at (S.Source.model source.now).places places.now }
 {
-    let blank = Row {
-        relation: 0,
-        columns: [0; 4],
-    };
-    let mut rows = Few::new(blank);
+    let mut rows = Few::new(Row::BLANK);
     for place in places {
         if let Some(row) = source.read(*place as usize) {
             rows.push(row);

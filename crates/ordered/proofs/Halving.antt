@@ -18,7 +18,7 @@ module _ {X : Type 0} {order : X → X → Ordering} {xs : List X} {x : X} {low 
   pub to_lower : (mid : ℕ) → low ≤ mid → mid < high → order (get_or xs mid x) x ≡ Greater → Narrowed order xs x low mid
   to_lower mid le lt greater = record { upward = le; within = omega arith; left = h.left; right = λ _. greater }
 
--- what `compare` answers of an item that is read among the first `count`
+-- what `cmp` answers of an item that is read among the first `count`
 pub answered : {X : Type 0} (order : X → X → Ordering) (items : List X) (count i : ℕ) (x y : X) (o : Ordering) → i < length (take count items) → y ≡ get_or items i y → o ≡ order y x → order (get_or (take count items) i x) x ≡ o
 answered order items count i x y o lt is told =
     let long = length-take count items in

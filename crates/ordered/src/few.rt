@@ -13,6 +13,7 @@ pub struct Few<T, const N: usize> {
     ghost within: { count ≤ N },
 }
 
+// By hand, since `Clone` cannot be derived over ghost fields.
 impl<T: Copy, const N: usize> Copy for Few<T, N> {}
 
 impl<T: Copy, const N: usize> Clone for Few<T, N> {

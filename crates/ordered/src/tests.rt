@@ -1,4 +1,4 @@
-// Lines of eight numbers in order: how a kind of element is made, and an example of each function.
+// Lines of eight numbers in order: an example of each function.
 use super::*;
 use std::cmp::Ordering;
 
@@ -39,10 +39,10 @@ fn what_passes_stays(rt: HostRuntime) {
 
 #[test]
 fn columns_decide_in_turn(rt: HostRuntime) {
-    assert_eq!(rt; [1, 2].as_slice().cmp(&[1, 3].as_slice()), Ordering::Less);
+    assert_eq!(rt; [1u32, 2].as_slice().cmp(&[1, 3].as_slice()), Ordering::Less);
     assert_eq!(rt;
-        [1, 2, 0].as_slice().cmp(&[1, 2].as_slice()),
+        [1u32, 2, 0].as_slice().cmp(&[1u32, 2].as_slice()),
         Ordering::Greater
     );
-    assert_eq!(rt; [7].as_slice().cmp(&[7].as_slice()), Ordering::Equal);
+    assert_eq!(rt; [7u32].as_slice().cmp(&[7].as_slice()), Ordering::Equal);
 }
