@@ -13,9 +13,9 @@ impl Costs {
     // For each kind the smaller of two.
     pub fn least(self, other: Costs) -> Costs {
         Costs {
-            entry: smaller(self.entry, other.entry),
-            strike: smaller(self.strike, other.strike),
-            rule: smaller(self.rule, other.rule),
+            entry: self.entry.min(other.entry),
+            strike: self.strike.min(other.strike),
+            rule: self.rule.min(other.rule),
         }
     }
 
@@ -32,8 +32,4 @@ impl Costs {
 fn cost(rt: &HostRuntime, name: &str, now: f64, before: f64) -> io::Result<()> {
     let ratio = now / before;
     print!(rt; "  {name} {now:>9.1} ({ratio:.2})")
-}
-
-fn smaller(a: f64, b: f64) -> f64 {
-    if a < b { a } else { b }
 }

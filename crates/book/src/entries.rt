@@ -68,10 +68,9 @@ impl<S: Source> Book<S> {
             return Err(Refusal::TooManyRules);
         }
         let rule = check_rule(&self.source, atoms, comparisons)?;
-        // Both arms are told here: `map_err` with a `?` would only say the second apart from the first.
-        match self.log.add_rule(&self.source, rule) {
-            Ok(()) => Ok(number),
-            Err(Full) => Err(Refusal::RuleConflicts),
-        }
+        self.log
+            .add_rule(&self.source, rule)
+            .map_err(|_| Refusal::RuleConflicts)?;
+        Ok(number)
     }
 }
