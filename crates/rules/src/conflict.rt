@@ -4,7 +4,7 @@ ghost use Rattle.std.specs.Prelude.{◌≡◌, ◌≤◌, length};
 pub mod making;
 pub mod order;
 
-// Eight bytes, so that a whole list is 8 KiB: a `Few` of the places, with its count of eight bytes, would make it 24.
+// Memory is fixed: a list of 1,024 is 8 KiB with eight bytes for each, and 24 KiB with a `Few` and its count of eight bytes.
 // Places are below 256 and rules below 16.
 #[derive(Clone, Copy)]
 pub struct Conflict {

@@ -3,6 +3,7 @@
 // A row that comes is tried for each atom of its relation, with one pass over the places for each further atom. Where the
 // conflicts do not fit the list, those of the row or of the rule that comes are taken out again.
 // A rule's number is a byte, so there may be 256 rules: who hands over a slice of them shows that it is not longer.
+// No type holds such a slice (`few`): the rules are the caller's own slice, and a type for it would be made for one call.
 ghost use Rattle.std.specs.Prelude.{◌≡◌, ◌<◌, ◌≤◌, not, List, [], ◌∷◌, ◌++◌, map, length, Some, None, filter, Option, slice_set};
 ghost use Rattle.store.specs.Store.{at};
 ghost use Rattle.rules.specs.Entries.{listing};

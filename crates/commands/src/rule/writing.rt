@@ -4,22 +4,16 @@ ghost use Rattle.commands.specs.Rules.{written};
 
 use super::RuleText;
 use ordered::Few;
-use rules::{Comparison, Side};
-use store::Sign;
+use rules::Comparison;
 
 impl RuleText {
     // No atoms and no comparisons.
     pub(crate) fn new() -> RuleText
         ensures { written result ≡ record { atoms = []; comparisons = [] } }
     {
-        let blank = Comparison {
-            left: Side::Constant(0),
-            sign: Sign::Equal,
-            right: Side::Constant(0),
-        };
         RuleText {
             atoms: Few::new(0),
-            comparisons: Few::new(blank),
+            comparisons: Few::new(Comparison::BLANK),
         }
     }
 

@@ -7,8 +7,8 @@ use ordered::Few;
 use store::Sign;
 
 impl Comparison {
-    // What stands behind a rule's last comparison.
-    pub(crate) const BLANK: Comparison = Comparison {
+    // What stands in an array of comparisons where none does.
+    pub const BLANK: Comparison = Comparison {
         left: Side::Constant(0),
         sign: Sign::Equal,
         right: Side::Constant(0),

@@ -1,6 +1,5 @@
 // Making a rule of what a caller gives, if it is one.
-ghost use Rattle.std.specs.Prelude.{◌≡◌, length};
-ghost use Rattle.rules.specs.Refusals.{CheckSays, FailSays, is_declared, names, side_names};
+ghost use Rattle.rules.specs.Refusals.{CheckSays};
 
 use super::{Comparison, Rule, Side};
 use crate::refusal::Refusal;
@@ -18,8 +17,11 @@ pub fn check_rule<S: Source>(
     if atoms.is_empty() || atoms.len() > 3 || comparisons.len() > 6 {
         return Err(Refusal::Malformed);
     }
-    first_undeclared(source, atoms).map_or(Ok(()), |atom| Err(Refusal::UndeclaredAtom(atom)))?;
-    first_unnamed(source, atoms, comparisons).map_or(
+    let draft = Draft { source, atoms };
+    draft
+        .first_undeclared()
+        .map_or(Ok(()), |atom| Err(Refusal::UndeclaredAtom(atom)))?;
+    draft.first_unnamed(comparisons).map_or(
         Ok(()),
         |comparison| Err(Refusal::NoSuchColumn(comparison)),
     )?;
@@ -29,37 +31,52 @@ pub fn check_rule<S: Source>(
     })
 }
 
-// The first atom whose relation is not declared.
-fn first_undeclared<S: Source>(source: &S, atoms: &[u16]) -> Option<usize>
-    ensures { FailSays (is_declared (S.Source.model source.now).arity) atoms.now result }
-{
-    atoms.iter().position(|atom| source.arity(*atom) == 0)
+// The atoms of a rule that is to be made, and the source that knows their relations.
+#[derive(Drop)]
+struct Draft<'a, S> {
+    source: &'a S,
+    atoms: &'a [u16],
 }
 
-// The first comparison with a column that is none of the rule's.
-fn first_unnamed<S: Source>(source: &S, atoms: &[u16], comparisons: &[Comparison]) -> Option<usize>
-    ensures { FailSays (names (S.Source.model source.now).arity atoms.now) comparisons.now result }
-{
-    comparisons
-        .iter()
-        .position(|comparison| !names_columns(source, atoms, comparison))
-}
+impl<S: Source> Draft<'_, S> {
+    ghost use Rattle.std.specs.Prelude.{◌≡◌};
+    ghost use Rattle.rules.specs.Refusals.{FailSays, is_declared, names, side_names};
 
-// Whether each side of a comparison is a constant or a column of the rule.
-fn names_columns<S: Source>(source: &S, atoms: &[u16], comparison: &Comparison) -> bool
-    ensures { result ≡ names (S.Source.model source.now).arity atoms.now comparison.now }
-{
-    side_names(source, atoms, comparison.left) && side_names(source, atoms, comparison.right)
-}
+    // The first atom whose relation is not declared.
+    fn first_undeclared(&self) -> Option<usize>
+        ensures { FailSays (is_declared (S.Source.model self.now.source.now).arity) self.now.atoms.now result }
+    {
+        self.atoms
+            .iter()
+            .position(|atom| self.source.arity(*atom) == 0)
+    }
 
-// Whether a side is a constant, or a column of one of the atoms that its relation has.
-fn side_names<S: Source>(source: &S, atoms: &[u16], side: Side) -> bool
-    ensures { result ≡ side_names (S.Source.model source.now).arity atoms.now side }
-{
-    match side {
-        Side::Column { atom, column } => atoms
-            .get(atom as usize)
-            .is_some_and(|relation| column < source.arity(*relation)),
-        Side::Constant(_) => true,
+    // The first comparison with a column that is none of the rule's.
+    fn first_unnamed(&self, comparisons: &[Comparison]) -> Option<usize>
+        ensures { FailSays (names (S.Source.model self.now.source.now).arity self.now.atoms.now) comparisons.now result }
+    {
+        comparisons
+            .iter()
+            .position(|comparison| !self.names_columns(comparison))
+    }
+
+    // Whether each side of a comparison is a constant or a column of the rule.
+    fn names_columns(&self, comparison: &Comparison) -> bool
+        ensures { result ≡ names (S.Source.model self.now.source.now).arity self.now.atoms.now comparison.now }
+    {
+        self.names_side(comparison.left) && self.names_side(comparison.right)
+    }
+
+    // Whether a side is a constant, or a column of one of the atoms that its relation has.
+    fn names_side(&self, side: Side) -> bool
+        ensures { result ≡ side_names (S.Source.model self.now.source.now).arity self.now.atoms.now side }
+    {
+        match side {
+            Side::Column { atom, column } => self
+                .atoms
+                .get(atom as usize)
+                .is_some_and(|relation| column < self.source.arity(*relation)),
+            Side::Constant(_) => true,
+        }
     }
 }

@@ -4,7 +4,7 @@ use Rattle.rules.specs.Beginnings.{rows_of_picks}
 use Rattle.rules.specs.Comparisons.{side_within}
 use Rattle.rules.specs.Rules.{side_of}
 use Rattle.rules.proofs.Naming.{chosen_columns}
-use Rattle.rules.proofs.rule.fit.value.Goals as goal
+use Rattle.rules.proofs.rule.Side.value.Goals as goal
 
 pub returns-in-Column : goal.returns-in-Column
 returns-in-Column c =
