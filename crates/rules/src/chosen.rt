@@ -17,10 +17,7 @@ impl Pick {
     // What stands in a choice where no row is chosen yet.
     pub(crate) const NONE: Pick = Pick {
         place: 0,
-        row: Row {
-            relation: 0,
-            columns: [0; 4],
-        },
+        row: Row::BLANK,
     };
 }
 
