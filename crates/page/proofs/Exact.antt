@@ -3,15 +3,15 @@ use Rattle.std.proofs.Common.{◌≡◌, ℕ, true, false, eqb, List, [], ◌∷
 use Rattle.std.proofs.lemmas.List.FromFn.{fill_by_all}
 use Rattle.std.proofs.lemmas.Option.{none-some, same_Some}
 use Rattle.std.proofs.lemmas.Slice.Eq.{bytes_eq-Decides}
+use Rattle.std.proofs.lemmas.Bool.{and_parts, eqb-true, cases_Bool, cond-true, cond-false}
 use Rattle.std.specs.Str.{bytes_eq}
+use Rattle.std.specs.List.{range_with_len}
 use Rattle.store.specs.Store.{is_row}
+use Rattle.store.specs.Lists.{all}
+use Rattle.store.specs.declared.row.Row.{Row}
 use Rattle.store.proofs.Alike.{same_row_refl}
 use Rattle.store.proofs.Looked.{row_there}
 use Rattle.store.proofs.Tests.{same_tests}
-use Rattle.std.proofs.lemmas.Bool.{and_parts, eqb-true, cases_Bool, cond-true, cond-false}
-use Rattle.std.specs.List.{range_with_len}
-use Rattle.store.specs.Lists.{all}
-use Rattle.store.specs.declared.row.Row.{Row}
 use Rattle.page.specs.Records.{Proper, marks_row, marks_empty, is_marked, is_fit, row_in, place_of, record_of}
 use Rattle.page.proofs.Numbers.{AreBytes, two_bytes, four_bytes, two_number, four_number}
 

@@ -1,9 +1,10 @@
 -- A page that one record is written to stays a page.
 use Rattle.std.proofs.Common.{◌≡◌, ℕ, ◌+◌, ◌*◌, ◌/◌, ◌%◌, ◌<◌, ◌≤◌, true, false, ltb, List, [], ◌++◌, length, get_or, take, drop, set, is_some, Some, None, Option, sym, refl, ap, ◌∙◌, subst, ⊎_elim, zero-add, arith}
 use Rattle.std.proofs.lemmas.List.{get_or_default, get_or-take, length-take, length-drop, length-append}
+use Rattle.std.proofs.lemmas.List.Folds.{list_any_none}
 use Rattle.std.proofs.lemmas.List.FromFn.{length-range_with_len, get_or-range_with_len}
-use Rattle.std.specs.List.{range_with_len}
 use Rattle.std.proofs.lemmas.Bool.{cases_Bool, cond-true, cond-false, not_from_false, eq-eqb, le-leb}
+use Rattle.std.specs.List.{range_with_len}
 use Rattle.store.specs.Lists.{any}
 use Rattle.store.specs.Keeping.{keeps_of}
 use Rattle.store.specs.Places.{OnceIn, FitIn}
@@ -11,7 +12,6 @@ use Rattle.store.specs.Rows.{arity_in, zero_from}
 use Rattle.store.specs.Store.{is_row}
 use Rattle.store.specs.declared.row.Row.{Row}
 use Rattle.store.proofs.Places.{once_put, once_struck, fit_put, fit_struck}
-use Rattle.store.proofs.Firsts.{any_none}
 use Rattle.store.proofs.Looked.{row_there}
 use Rattle.store.proofs.Tests.{from_not}
 use Rattle.page.specs.Checks.{is_new, is_new_to, record_refusal, IsPage}
@@ -53,7 +53,7 @@ module _ (bytes arities : List ℕ) (exact : Exact bytes) (fit : FitIn arities (
     where
       go : (here : Option Row) → get_or (places_of bytes) q None ≡ here → is_new_to (take q (places_of bytes)) here ≡ true
       go None at-q = refl
-      go (Some row) at-q = not_from_false _ (any_none (is_row row) (take q (places_of bytes)) (λ p d before. from_not _ (λ alike.
+      go (Some row) at-q = not_from_false _ (list_any_none (is_row row) (take q (places_of bytes)) (λ p d before. from_not _ (λ alike.
           let earlier : (p < q) × (p < length (places_of bytes)) = (omega (arith, length-take q (places_of bytes)), omega (arith, length-take q (places_of bytes))) in
           let at_p : get_or (places_of bytes) p None ≡ Some row = get_or_default (places_of bytes) p None d earlier.1 ∙ sym (get_or-take q (places_of bytes) p d earlier.0) ∙ row_there row _ alike in
           let e = once q p (ap is_some at-q, at-q ∙ sym at_p) in

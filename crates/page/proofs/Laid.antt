@@ -1,12 +1,13 @@
 -- A page that is written record by record.
 use Rattle.std.proofs.Common.{◌≡◌, ℕ, ◌+◌, ◌*◌, ◌<◌, ◌≤◌, List, [], map, length, get_or, set, None, Option, sym, ap, ◌∙◌, arith, below_more}
 use Rattle.std.proofs.lemmas.List.{get_or-set_same, get_or-set_other, get_or-map, length-map, ext_get_or}
+use Rattle.std.proofs.lemmas.List.Folds.{flat_map-map}
 use Rattle.std.specs.List.{flat_map}
 use Rattle.store.specs.declared.row.Row.{Row}
 use Rattle.page.specs.Pages.{records_of, places_of, page_of, written}
 use Rattle.page.specs.Records.{place_of, record_of}
 use Rattle.page.proofs.Chunks.{length_records, joined_records, records_written}
-use Rattle.page.proofs.Pages.{length_places, place_at, joined_map}
+use Rattle.page.proofs.Pages.{length_places, place_at}
 
 -- the first n records are those of the places
 pub record Laid (places : List (Option Row)) (bytes : List ℕ) (n : ℕ) : Type 0 where
@@ -39,7 +40,7 @@ module _ (places : List (Option Row)) (bytes : List ℕ) where
 
     pub laid_page : bytes ≡ page_of places
     unfolding page_of
-    laid_page = sym (joined_records bytes (length places) all.long) ∙ ap (flat_map (λ r. r)) records_all ∙ sym (joined_map record_of places)
+    laid_page = sym (joined_records bytes (length places) all.long) ∙ ap (flat_map (λ r. r)) records_all ∙ flat_map-map (λ r. r) record_of places
 
     pub laid_back : places_of bytes ≡ places
     laid_back =

@@ -1,7 +1,8 @@
 -- Bytes, records and places of a page, and how one gives the others.
-use Rattle.std.proofs.Common.{◌≡◌, ℕ, ◌*◌, ◌/◌, ◌<◌, Bool, true, false, cond, List, [], ◌∷◌, ◌++◌, map, length, get_or, set, Some, None, Option, sym, refl, ap, ◌∙◌, arith}
+use Rattle.std.proofs.Common.{◌≡◌, ℕ, ◌*◌, ◌/◌, ◌<◌, Bool, true, false, cond, List, [], ◌∷◌, map, length, get_or, set, Some, None, Option, sym, refl, ap, ◌∙◌, arith}
 use Rattle.std.proofs.Math.ListN.{get_or-map as map_read}
 use Rattle.std.proofs.lemmas.List.{length-map, map-set, get_or-map, ext_get_or}
+use Rattle.std.proofs.lemmas.List.Folds.{flat_map-map}
 use Rattle.std.specs.List.{flat_map}
 use Rattle.store.specs.declared.row.Row.{Row}
 use Rattle.page.specs.Pages.{records_of, places_of, page_of, written}
@@ -28,13 +29,9 @@ places_long : (records : List (List ℕ)) → Long record_of (map place_of recor
 places_long [] = tt
 places_long (r ∷ rs) = (place_long (marks_row r) r, places_long rs)
 
-pub joined_map : {Y : Type 0} (f : Y → List ℕ) (ys : List Y) → flat_map f ys ≡ flat_map (λ r. r) (map f ys)
-joined_map f [] = refl
-joined_map f (y ∷ ys) = ap (λ (rest : List ℕ). f y ++ rest) (joined_map f ys)
-
 pub whole_from : (bytes : List ℕ) (k : ℕ) → length bytes ≡ 20 * k → Exact bytes → page_of (places_of bytes) ≡ bytes
 unfolding page_of
-whole_from bytes k long exact = joined_map record_of (places_of bytes) ∙ ap (flat_map (λ r. r)) exact ∙ joined_records bytes k long
+whole_from bytes k long exact = sym (flat_map-map (λ r. r) record_of (places_of bytes)) ∙ ap (flat_map (λ r. r)) exact ∙ joined_records bytes k long
 
 pub exact_from : (bytes : List ℕ) → page_of (places_of bytes) ≡ bytes → Exact bytes
 unfolding page_of places_of

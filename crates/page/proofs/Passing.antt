@@ -1,10 +1,11 @@
 -- What bytes that pass the check are, and that a source's bytes pass it.
-use Rattle.std.proofs.Common.{◌≡◌, ℕ, zero, suc, ◌/◌, ◌%◌, ◌<◌, ◌≤◌, Bool, true, false, ◌&&◌, eqb, ltb, leb, List, [], ◌∷◌, length, get_or, take, is_some, Some, None, Option, sym, refl, ap, ◌∙◌, subst, ⊎_elim, zero-add, arith}
+use Rattle.std.proofs.Common.{◌≡◌, ℕ, ◌/◌, ◌%◌, ◌<◌, ◌≤◌, Bool, true, false, ◌&&◌, eqb, ltb, leb, List, [], length, get_or, take, is_some, Some, None, Option, sym, refl, ap, ◌∙◌, subst, ⊎_elim, zero-add, arith}
 use Rattle.std.proofs.lemmas.List.FromFn.{length-range_with_len, get_or-range_with_len}
 use Rattle.std.proofs.ByRecursion.{All-get_or}
 use Rattle.std.proofs.lemmas.List.{get_or-take}
 use Rattle.std.proofs.lemmas.Option.{none-some}
-use Rattle.std.proofs.lemmas.Bool.{and_parts, both_ways, cases_order, cond-true, eqb-true, leb-true}
+use Rattle.std.proofs.lemmas.List.Sums.{AllPass-from_list_all}
+use Rattle.std.proofs.lemmas.Bool.{both_ways, cases_order, cond-true, eqb-true, leb-true}
 use Rattle.std.specs.List.{range_with_len}
 use Rattle.fault.specs.Questions.{ask}
 use Rattle.store.specs.Lists.{all}
@@ -27,9 +28,7 @@ asked true refusal rest none = (refl, none)
 asked false refusal rest none = absurd (none-some refusal (sym none))
 
 each_at : {A : Type 0} (test : A → Bool) (xs : List A) (d : A) → all test xs ≡ true → (k : ℕ) → k < length xs → test (get_or xs k d) ≡ true
-each_at test [] d passed k inside = absurd (omega arith)
-each_at test (x ∷ xs) d passed zero inside = (and_parts (test x) (all test xs) passed).0
-each_at test (x ∷ xs) d passed (suc k) inside = each_at test xs d (and_parts (test x) (all test xs) passed).1 k (omega arith)
+each_at test xs d passed k inside = AllPass-from_list_all test xs passed k d inside
 
 some_row : (place : Option Row) → is_some place ≡ true → (row : Row) × (place ≡ Some row)
 some_row None some = absurd (both_ways false refl some)

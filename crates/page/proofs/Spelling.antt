@@ -1,7 +1,7 @@
 -- A record to which a row's columns are written one by one.
 use Rattle.std.proofs.Common.{◌≡◌, ℕ, ◌+◌, ◌*◌, ◌-◌, ◌<◌, List, [], ◌∷◌, ◌++◌, length, get_or, take, drop, replicate, sym, refl, ap, ap₂, ◌∙◌, arith}
-use Rattle.std.specs.List.{flat_map}
 use Rattle.std.proofs.lemmas.List.{append_assoc, append-nil, take_all, take_more, take_at, drop_at, drop-replicate, flat_map_more, length-append, length-take}
+use Rattle.std.specs.List.{flat_map}
 use Rattle.page.specs.Records.{in_four}
 
 pub length_columns : (xs : List ℕ) → length (flat_map in_four xs) ≡ 4 * length xs

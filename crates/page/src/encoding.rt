@@ -15,6 +15,7 @@ pub fn encode_row(row: &Row) -> Record
     let mut record = [0; 20];
     record[0..2].copy_from_slice(&ROW);
     record[2..4].copy_from_slice(&relation.to_be_bytes());
+    // Column by column: after `columns.map(..)` it is not known that they fit, and the proof of `back` did not close.
     for (column, value) in columns.iter().enumerate() {
         let start = 4 + 4 * column;
         record[start..start + 4].copy_from_slice(&value.to_be_bytes());

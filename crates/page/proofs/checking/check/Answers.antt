@@ -8,7 +8,7 @@ use Rattle.page.specs.Pages.{records_of, places_of}
 use Rattle.page.specs.Records.{is_marked, is_fit}
 use Rattle.page.specs.declared.refusal.Refusal.{Refusal}
 use Rattle.page.specs.declared.refusal.Refusal.TheVariants.{Unmarked, Unfit, Repeated}
-use Rattle.page.proofs.Asked.{said, each_asked, failing_from_position}
+use Rattle.page.proofs.Asked.{said, asked_by_position}
 use Rattle.page.proofs.Chunks.{length_records}
 use Rattle.page.proofs.Passing.{page_passed}
 use Rattle.page.proofs.checking.check.Goals as goal
@@ -28,21 +28,18 @@ first c =
     let bytes = c.args.bytes.now in
     let whole = eq-eqb (length bytes % 20) 0 c.if-bytes-ne0.false in
     let short = le-leb (length bytes) 5120 c.if-bytes-gt-LONGEST.false in
-    rw (whole, short) (each_asked is_marked [] (records_of bytes) Unmarked _ _ (failing_from_position is_marked _ c.position.ensures.ran (YieldsList-from_slice (records_of bytes) (c.iter.ensures.rest ∙ c.records_in-records.ensures)) (λ x b q k. search rules)))
+    rw (whole, short) (asked_by_position is_marked [] (records_of bytes) Unmarked _ _ _ c.position.ensures.ran (YieldsList-from_slice (records_of bytes) (c.iter.ensures.rest ∙ c.records_in-records.ensures)) (λ x b q k. search rules))
 
 second : (c : After-position-2) → fit_refusal c.args.bytes.now c.args.arities.now ≡ said Unfit (new_refusal c.args.bytes.now) c.position-2.result
 second c =
     let bytes = c.args.bytes.now in
-    let test = is_fit (arity_in c.args.arities.now) in
-    each_asked test [] (records_of bytes) Unfit _ _ (failing_from_position test _ c.position-2.ensures.ran (YieldsList-from_slice (records_of bytes) (c.iter-2.ensures.rest ∙ c.records_in-records.ensures)) (λ x b q k. search rules))
+    asked_by_position (is_fit (arity_in c.args.arities.now)) [] (records_of bytes) Unfit _ _ _ c.position-2.ensures.ran (YieldsList-from_slice (records_of bytes) (c.iter-2.ensures.rest ∙ c.records_in-records.ensures)) (λ x b q k. search rules)
 
 third : (c : After-position-3) → new_refusal c.args.bytes.now ≡ said Repeated None c.position-3.result
 third c =
     let bytes = c.args.bytes.now in
-    let test = is_new (places_of bytes) in
     let count = length (records_of bytes) in
-    each_asked test 0 (range_with_len 0 count) Repeated None _
-    (failing_from_position test _ c.position-3.ensures.ran (YieldsList-from_range 0 _ count refl (omega (arith, ap length c.records_in-records.ensures))) (λ x b q k. search rules))
+    asked_by_position (is_new (places_of bytes)) 0 (range_with_len 0 count) Repeated None _ _ c.position-3.ensures.ran (YieldsList-from_range 0 _ count refl (omega (arith, ap length c.records_in-records.ensures))) (λ x b q k. search rules)
 
 pub returns-in-Some-clause-says : goal.returns-in-Some-clause-says
 returns-in-Some-clause-says c = sym (first (goal.at.returns-in-Some-clause-says c).After-position ∙ ap (said Unmarked _) c.in-Some.is)

@@ -2,10 +2,10 @@ use Rattle.std.proofs.Common.{◌≡◌, ℕ, ◌+◌, ◌/◌, List, [], map, l
 use Rattle.std.proofs.lemmas.Bool.{cond-true}
 use Rattle.std.specs.List.{range_with_len}
 use Rattle.std.specs.Simd.{first_chunks}
+use Rattle.store.specs.declared.row.Row.{Row}
 use Rattle.page.specs.Records.{marks_row, four_at, row_in}
 use Rattle.page.proofs.Exact.{twenty}
 use Rattle.page.proofs.Made.{made}
-use Rattle.store.specs.declared.row.Row.{Row}
 use Rattle.page.proofs.record.decode.Goals as goal
 
 -- the column at a place is the number that the next word but one spells

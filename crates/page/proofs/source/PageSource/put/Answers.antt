@@ -1,6 +1,6 @@
 use Rattle.std.proofs.Common.{◌≡◌, ℕ, false, true, List, Some, None, Err, is_some, sym, refl, ap, ◌∙◌, subst, arith}
-use Rattle.std.specs.Result.{result_err, result_ok}
 use Rattle.std.proofs.lemmas.Result.{err_from_is_err_and}
+use Rattle.std.specs.Result.{result_err, result_ok}
 use Rattle.store.specs.Store.{PutSays, admission, declares, ends_in_zeros, holds, is_empty}
 use Rattle.store.specs.Tables.{VacantSays}
 use Rattle.store.proofs.Asked.{barred, admitted, granted}
