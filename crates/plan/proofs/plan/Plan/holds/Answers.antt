@@ -10,11 +10,9 @@ use Rattle.plan.specs.Filling.{leaves_before}
 use Rattle.plan.specs.Nodes.{blank}
 use Rattle.plan.specs.Plans.{nodes_of}
 use Rattle.plan.specs.Truths.{part_at, truth_of, truths, line_fits, plan_truth, Tells}
-use Rattle.plan.specs.declared.node.Node.TheVariants.{Leaf}
 use Rattle.plan.specs.declared.plan.Plan.{Plan}
 use Rattle.plan.proofs.Answering.{by_names}
 use Rattle.plan.proofs.Evaluating.{own_idle, truths_more, truths_long}
-use Rattle.plan.proofs.PlanLeaves.{leaf_number, leaves_few}
 use Rattle.plan.proofs.PlanNodes.{steps_long, step_node}
 use Rattle.plan.proofs.Standing.{NoLeaf, count_leaf, count_other}
 use Rattle.plan.proofs.plan.Plan.holds.Goals as goal
