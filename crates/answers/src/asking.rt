@@ -11,21 +11,16 @@ use store::Source;
 pub fn check_leaves<S: Source>(source: &S, plan: &Plan) -> Result<(), Refusal>
     ensures { Unless (leaves_no (S.Source.model source.now).arity (nodes_of plan.now)) result }
 {
-    let mut leaves = plan.leaf_list().iter();
-    // What is found is the error: a match says it more plainly than `map_or(Ok(()), ..)`.
-    match leaves.find(|leaf| leaf.arity != source.arity(leaf.relation)) {
-        Some(leaf) => Err(Refusal::Arity(leaf.node)),
-        None => Ok(()),
-    }
+    plan.leaf_list()
+        .iter()
+        .find(|leaf| leaf.arity != source.arity(leaf.relation))
+        .map_or(Ok(()), |leaf| Err(Refusal::Arity(leaf.node)))
 }
 
 // Whether the line is zero from the plan's width on; if not, the first column that is not.
 pub fn check_line(plan: &Plan, line: &Line) -> Result<(), Refusal>
     ensures { Unless (line_no (plan_width (nodes_of plan.now)) line.now.columns) result }
 {
-    // What is found is the error: a match says it more plainly than `map_or(Ok(()), ..)`.
-    match plan.past(line) {
-        Some(column) => Err(Refusal::Column(column)),
-        None => Ok(()),
-    }
+    plan.past(line)
+        .map_or(Ok(()), |column| Err(Refusal::Column(column)))
 }

@@ -1,5 +1,5 @@
 -- The first number below n that passes a test.
-use Rattle.std.proofs.Common.{◌≡◌, ℕ, zero, suc, ◌<◌, ◌≤◌, Bool, true, false, ◌⊎◌, List, Some, None, Option, MatchOption, sym, refl, ap, ◌∙◌, inl, inr, arith}
+use Rattle.std.proofs.Common.{◌≡◌, ℕ, zero, suc, ◌<◌, ◌≤◌, Bool, true, false, ◌⊎◌, List, Some, None, Ok, Err, Option, Result, MatchOption, MatchResult, sym, refl, ap, ◌∙◌, subst, inl, inr, arith}
 use Rattle.std.specs.Bool.{⊤}
 use Rattle.std.specs.declared.ops.Range.{Range}
 use Rattle.std.specs.Fn.{CalledAt}
@@ -62,3 +62,8 @@ module _ (test seen : ℕ → Bool) (s u : Range ℕ) (r : Option ℕ) where
       spots : (o : Option ℕ) → MatchOption o ((k : ℕ) → s.start ≤ k → k < s.end → seen k ≡ false) (λ i. (s.start ≤ i) × (i < s.end) × (seen i ≡ true) × ((k : ℕ) → s.start ≤ k → k < i → seen k ≡ false)) → Spots test s.end o
       spots None none = first_none test s.end (none_before s.end none)
       spots (Some i) (from, to, passes, none) = spots_at test s.end i to (sym (same i from) ∙ passes) (none_before i none)
+
+-- the same with the number found as an error, as map_or(Ok(()), Err) gives it
+pub spots_as_error : {u : Unit {0}} (test : ℕ → Bool) (n : ℕ) (o : Option ℕ) (r : Result (Unit {0}) ℕ) → MatchOption o (r ≡ Ok u) (λ k. r ≡ Err k) → Spots test n o → MatchResult r (λ _. Spots test n None) (λ k. Spots test n (Some k))
+spots_as_error test n None r is spots = subst (λ x. MatchResult x (λ _. Spots test n None) (λ k. Spots test n (Some k))) (sym is) spots
+spots_as_error test n (Some k) r is spots = subst (λ x. MatchResult x (λ _. Spots test n None) (λ k. Spots test n (Some k))) (sym is) spots

@@ -20,11 +20,9 @@ fn names_late(k: usize, node: Node) -> bool
 pub fn check_earlier(nodes: &[Node]) -> Result<(), usize>
     ensures { MatchResult result (λ _. Spots (late_at nodes.now) (length nodes.now) None) (λ k. Spots (late_at nodes.now) (length nodes.now) (Some k)) }
 {
-    // What is found is the error: a match says it more plainly than `map_or(Ok(()), ..)`.
-    match (0..nodes.len()).find(|k| names_late(*k, nodes[*k])) {
-        Some(k) => Err(k),
-        None => Ok(()),
-    }
+    (0..nodes.len())
+        .find(|k| names_late(*k, nodes[*k]))
+        .map_or(Ok(()), Err)
 }
 
 // How often the node names the one at `k`.
@@ -54,9 +52,7 @@ pub fn check_named(nodes: &[Node]) -> Result<(), usize>
     requires few { length nodes.now ≤ 16 }
     ensures { MatchResult result (λ _. Spots (stray_at nodes.now) (length nodes.now - 1) None) (λ k. Spots (stray_at nodes.now) (length nodes.now - 1) (Some k)) }
 {
-    // What is found is the error: a match says it more plainly than `map_or(Ok(()), ..)`.
-    match (0..nodes.len() - 1).find(|k| times_named(nodes, *k) != 1) {
-        Some(k) => Err(k),
-        None => Ok(()),
-    }
+    (0..nodes.len() - 1)
+        .find(|k| times_named(nodes, *k) != 1)
+        .map_or(Ok(()), Err)
 }

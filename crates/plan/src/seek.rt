@@ -1,4 +1,5 @@
-// The least line from a start on, where lines are arrays of eight columns of which the first so many count.
+// The least line from a start on, where lines are arrays of eight columns of which the first so many count. Nothing calls this
+// module yet: it is the groundwork for listing a plan's lines in order.
 ghost use Rattle.std.specs.Prelude.{◌≡◌, ◌+◌, ◌-◌, ◌≤◌, true, false, [], ◌∷◌, ◌++◌, length, take, drop, MatchOption};
 ghost use Rattle.std.specs.Range.Bound.{bound_map};
 ghost use Rattle.plan.specs.Leaves.{opens, matches, opened, leaf_lines};
@@ -42,20 +43,20 @@ pub fn lesser_of(a: Option<[u32; 8]>, b: Option<[u32; 8]>, width: usize) -> Opti
 }
 
 // The line that columns give at a leaf, if they have its constants.
-// One pass tests the fixed columns and gathers the open ones, so it goes by index.
+// One pass tests the fixed columns and gathers the open ones, which `next` counts.
 fn opened_line(fields: [Field; 4], columns: [u32; 4]) -> Option<[u32; 8]>
     ensures { MatchOption result (matches fields columns ≡ false) (λ a. (matches fields columns ≡ true) × (take (opens fields) a ≡ opened fields columns) × (length a ≡ 8) × Padded (opens fields) a) }
 {
     let mut line = [0; 8];
     let mut next = 0;
-    for i in 0..4 {
-        match fields[i] {
+    for (field, column) in fields.iter().zip(&columns) {
+        match *field {
             Field::Open => {
-                line[next] = columns[i];
+                line[next] = *column;
                 next += 1;
             }
             Field::Fixed(constant) => {
-                if constant != columns[i] {
+                if constant != *column {
                     return None;
                 }
             }

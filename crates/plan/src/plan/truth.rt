@@ -70,11 +70,10 @@ impl Plan {
             return false;
         }
         let mut truths = Few::<bool, 16>::new(false);
-        let mut leaf = 0;
+        let mut told = truth.iter();
         for (k, step) in self.steps.as_slice().iter().enumerate() {
             if let Node::Leaf { .. } = step.node {
-                truths.push(truth[leaf]);
-                leaf += 1;
+                truths.push(*told.next().unwrap_or(&false));
             } else {
                 truths.push(self.truth_at(k, line, truths.as_slice()));
             }

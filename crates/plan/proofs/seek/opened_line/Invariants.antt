@@ -1,9 +1,11 @@
-use Rattle.std.proofs.Common.{◌≡◌, ◌+◌, ◌≤◌, ◌++◌, length, take, drop}
+use Rattle.std.proofs.Common.{◌≡◌, ◌+◌, ◌≤◌, ◌++◌, length, take}
+use Rattle.std.specs.Slice.Iter.{iter_rest}
 use Rattle.plan.specs.Leaves.{opens, matches, opened}
 use Rattle.plan.specs.Seeking.{Padded}
 use Rattle.plan.proofs.seek.opened_line.Given as goal
 
-abbrev pub invariant-loop-i : goal.invariant-loop-i
-invariant-loop-i l =
-    (matches (drop l.i l.fields) (drop l.i l.columns) ≡ matches l.fields l.columns) × (l.next + opens (drop l.i l.fields) ≡ opens l.fields) × (l.next ≤ l.i) ×
-    (take l.next l.line ++ opened (drop l.i l.fields) (drop l.i l.columns) ≡ opened l.fields l.columns) × (length l.line ≡ 8) × Padded l.next l.line
+abbrev pub invariant-loop-field : goal.invariant-loop-field
+invariant-loop-field l =
+    let fields = iter_rest l.field-iterator.a in
+    let columns = iter_rest l.field-iterator.b in
+    (length fields ≡ length columns) × (l.next + length fields ≤ 4) × (matches fields columns ≡ matches l.fn.fields l.fn.columns) × (l.next + opens fields ≡ opens l.fn.fields) × (take l.next l.line ++ opened fields columns ≡ opened l.fn.fields l.fn.columns) × (length l.line ≡ 8) × Padded l.next l.line

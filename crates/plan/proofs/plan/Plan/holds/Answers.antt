@@ -1,4 +1,7 @@
-use Rattle.std.proofs.Common.{◌≡◌, ℕ, ◌-◌, ◌<◌, Bool, false, ◌&&◌, List, length, get_or, sym, ap, ◌∙◌, subst, ap₂, arith, take, take_all, length-take-le}
+use Rattle.std.specs.Slice.Iter.{iter_rest, iter_steps}
+use Rattle.std.proofs.lemmas.List.{get_or-drop}
+use Rattle.std.specs.Option.{unwrap_or}
+use Rattle.std.proofs.Common.{◌≡◌, ℕ, ◌+◌, ◌-◌, ◌<◌, Bool, false, ◌&&◌, List, [], ◌∷◌, length, get_or, Some, None, Option, Bor, Iter, drop-drop, refl, sym, ap, ◌∙◌, subst, ap₂, arith, take, drop, take_all, length-take-le}
 use Rattle.std.proofs.lemmas.Bool.{and_left}
 use Rattle.store.specs.declared.row.Row.{Row}
 use Rattle.ordered.specs.Lists.{items_in}
@@ -7,31 +10,22 @@ use Rattle.plan.specs.Filling.{leaves_before}
 use Rattle.plan.specs.Nodes.{blank}
 use Rattle.plan.specs.Plans.{nodes_of}
 use Rattle.plan.specs.Truths.{part_at, truth_of, truths, line_fits, plan_truth, Tells}
-use Rattle.plan.specs.declared.node.Node.TheVariants.{Leaf}
 use Rattle.plan.specs.declared.plan.Plan.{Plan}
 use Rattle.plan.proofs.Answering.{by_names}
 use Rattle.plan.proofs.Evaluating.{own_idle, truths_more, truths_long}
-use Rattle.plan.proofs.PlanLeaves.{leaf_number, leaves_few}
 use Rattle.plan.proofs.PlanNodes.{steps_long, step_node}
 use Rattle.plan.proofs.Standing.{NoLeaf, count_leaf, count_other}
 use Rattle.plan.proofs.plan.Plan.holds.Goals as goal
 use Rattle.plan.proofs.plan.Plan.holds.Goals.{In-Leaf, After-len, in-Leaf, in_default}
 
-leaf : (c : In-Leaf) → get_or (nodes_of c.args.self.now) c.loop-k.k blank ≡ Leaf c.in-Leaf.relation c.in-Leaf.arity c.in-Leaf.fields
-leaf c = sym (step_node c.args.self.now _ c.as_slice-step-items.ensures.items c.loop-k.k _ c.loop-k-test.true) ∙ c.in-Leaf.is
+nothing : (xs : List Bool) → length xs ≡ 0 → (false ≡ get_or xs 0 false) × (xs ≡ drop 1 xs)
+nothing [] none = (refl, refl)
+nothing (x ∷ xs) none = absurd (omega arith)
 
--- at a leaf, one of the six is next
-next : (c : In-Leaf) → c.loop-k.leaf < 6
-next c =
-    let plan = c.args.self.now in
-    let (few, _) = leaf_number plan c.loop-k.k (omega (arith, ap length c.as_slice-step-items.ensures.items, steps_long plan)) _ _ _ (leaf c) in
-    omega (arith, leaves_few plan)
-
-pub bounds-truth-leaf : goal.bounds-truth-leaf
-bounds-truth-leaf c = next (goal.at.bounds-truth-leaf c).In-Leaf
-
-pub overflow_add-leaf : goal.overflow_add-leaf
-overflow_add-leaf c = let l = next (goal.at.overflow_add-leaf c).In-Leaf in omega arith
+-- what is told next, or false if nothing is, and what is left then
+told_next : (s t : Iter Bool) (r : Option (Bor Bool)) (v d : Bor Bool) → v ≡ unwrap_or r d → d.now ≡ false → iter_steps s r t → (v.now ≡ get_or (iter_rest s) 0 false) × (iter_rest t ≡ drop 1 (iter_rest s))
+told_next s t None v d e f (none, same) = let n = nothing (iter_rest s) none in (ap (λ b. b.now) e ∙ f ∙ n.0, ap iter_rest same ∙ n.1)
+told_next s t (Some x) v d e f is = (ap (λ b. b.now) e ∙ sym (ap (λ xs. get_or xs 0 false) is), sym (ap (drop 1) is))
 
 pub truth_at-requires : goal.truth_at-requires
 truth_at-requires c =
@@ -56,13 +50,15 @@ loop-k-preserved c =
     let bs = items_in c.loop-k.truths in
     elim c.match-step.branch [
       | in-Leaf w ↦
-          let is = sym node ∙ w.in-Leaf.is in (
-            omega (arith, w.leaf-is, count_leaf nodes k l _ _ _ is),
-            ap items_in w.truths-is ∙ w.push.ensures ∙ truths_more plan columns truth k l bs _ front (ap (λ n. get_or truth n false) count ∙ sym (ap (truth_of own (part_at plan columns k) bs) is)),
+          let is = sym node ∙ w.in-Leaf.is in let at = leaves_before nodes k in
+          let (next, rest) = told_next c.loop-k.told w.next.new.self w.next.result w.unwrap_or.result _ w.unwrap_or.ensures refl w.next.ensures.steps in
+          let here : w.unwrap_or.result.now ≡ own = next ∙ ap (λ xs. get_or xs 0 false) count ∙ get_or-drop at truth 0 false ∙ ap (λ n. get_or truth n false) {x = at + 0} {y = at} (omega arith) in (
+            ap iter_rest w.told-is ∙ rest ∙ ap (drop 1) count ∙ drop-drop 1 at truth ∙ ap (λ n. drop n truth) (sym (count_leaf nodes k l _ _ _ is)),
+            ap items_in w.truths-is ∙ w.push.ensures ∙ truths_more plan columns truth k l bs _ front (here ∙ sym (ap (truth_of own (part_at plan columns k) bs) is)),
           )
       | in_default w ↦
           let other = subst NoLeaf node w.in_default.not-Leaf in (
-            omega (arith, w.leaf-is, count_other nodes k l other),
+            ap (λ i. i.rest.now) w.told-is ∙ count ∙ ap (λ n. drop n truth) (sym (count_other nodes k l other)),
             ap items_in w.truths-is ∙ w.push-in_default.ensures ∙ truths_more plan columns truth k l bs _ front (w.truth_at.ensures ∙ own_idle own (part_at plan columns k) _ (get_or nodes k blank) other ∙ ap (λ ts. truth_of own (part_at plan columns k) ts (get_or nodes k blank)) w.as_slice.ensures.items),
           )
     ]
