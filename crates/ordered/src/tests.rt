@@ -39,7 +39,10 @@ fn what_passes_stays(rt: HostRuntime) {
 
 #[test]
 fn columns_decide_in_turn(rt: HostRuntime) {
-    assert_eq!(rt; [1u32, 2].as_slice().cmp(&[1, 3].as_slice()), Ordering::Less);
+    assert_eq!(rt;
+        [1u32, 2].as_slice().cmp(&[1, 3].as_slice()),
+        Ordering::Less
+    );
     assert_eq!(rt;
         [1u32, 2, 0].as_slice().cmp(&[1u32, 2].as_slice()),
         Ordering::Greater
