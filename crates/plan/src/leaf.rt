@@ -57,6 +57,7 @@ pub fn named_row(relation: u16, fields: [Field; 4], line: &[u32]) -> Row
 {
     let mut columns = [0; 4];
     let mut numbers = line.iter();
+    // Tried with `columns.iter_mut().zip(&fields)`: the invariant does not see `columns` there, and the proof did not close.
     for (i, field) in fields.iter().enumerate() {
         columns[i] = match *field {
             Field::Open => *numbers.next().unwrap_or(&0),

@@ -17,7 +17,7 @@ fn right_start(op: Op, start: u8, left: u8) -> u8
 }
 
 // The offsets of the nodes, from the last one down: each node but the last is named by one later node.
-// A node writes the offsets of the nodes that it names and not its own, so the loop goes by index.
+// Tried with `nodes.iter().enumerate().rev()`: the invariant has no index there, and the proof did not close.
 pub fn offsets_of(nodes: &[Node], widths: &[u8; 16]) -> [u8; 16]
     requires few { length nodes.now ≤ 16 }
     requires early { Earlier nodes.now }
