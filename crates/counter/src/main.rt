@@ -16,6 +16,7 @@ fn main(rt: HostRuntime) -> io::Result<()> {
     let mut input = rt.stdin();
     let mut output = rt.stdout();
     let mut block = [0u8; BLOCK];
+    // A program is proved to end, so the reads are counted: so many that no input lasts so long.
     for _ in 0..u64::MAX {
         let length = input.read(&mut block)?;
         if length == 0 {
