@@ -26,7 +26,8 @@ fn rows() -> [Row; 8] {
     ]
 }
 
-// Says of two lines whether they are answers of the plan.
+// Says of two lines whether they are answers of the plan. Each question is a call and no row of a table: a row would
+// take as many lines, and a type of its own.
 fn ask(
     rt: &HostRuntime,
     name: &str,
