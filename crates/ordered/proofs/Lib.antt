@@ -3,6 +3,7 @@ pub mod Ascending
 pub mod Comparing
 pub mod Drawn
 pub mod Entering
+pub mod Fews
 pub mod Keyed
 pub mod Members
 pub mod Placing

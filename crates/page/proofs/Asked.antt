@@ -1,5 +1,5 @@
 -- What a question to each thing of a list comes to, from a look for the first thing that fails it.
-use Rattle.std.proofs.Common.{◌≡◌, ℕ, ◌<◌, Bool, true, false, not, List, length, get_or, Some, None, Option, refl, ap, ◌∙◌, arith}
+use Rattle.std.proofs.Common.{◌≡◌, ℕ, suc, ◌+◌, ◌<◌, Bool, true, false, not, List, [], ◌∷◌, length, get_or, cond, ◌&&◌, Some, None, Option, Ok, Err, Result, refl, ap, ap₂, ◌∙◌, arith}
 use denote.Param.Members.{Mut}
 use Rattle.std.proofs.lemmas.Iterator.{YieldsList, IsFirst-from_position}
 use Rattle.std.proofs.lemmas.List.{get_or_default}
@@ -7,8 +7,11 @@ use Rattle.std.proofs.lemmas.List.Folds.{list_all_at}
 use Rattle.std.proofs.lemmas.List.Sums.{prefix_len_is, list_all-from_AllPass}
 use Rattle.std.specs.Fn.{Called}
 use Rattle.std.specs.Iterator.{YieldsThen}
-use Rattle.std.specs.List.{AllWithin, FoldsTo, HoldsAt}
+use Rattle.std.specs.List.{AllWithin, FoldsTo, HoldsAt, prefix_len}
+use Rattle.store.specs.Lists.{all}
 use Rattle.std.specs.Option.{MatchOption}
+use Rattle.std.specs.Result.{result_err}
+use Rattle.fault.specs.Questions.{ask}
 use Rattle.page.specs.Checks.{ask_each}
 use Rattle.page.specs.declared.refusal.Refusal.{Refusal}
 
@@ -16,6 +19,29 @@ use Rattle.page.specs.declared.refusal.Refusal.{Refusal}
 abbrev pub said : (ℕ → Refusal) → Option Refusal → Option ℕ → Option Refusal
 said refusal rest None = rest
 said refusal rest (Some place) = Some (refusal place)
+
+-- what is told of a question, and of the rest of the questions where it refuses nothing
+abbrev pub then_told : Option Refusal → Option Refusal → Option Refusal
+then_told (Some e) rest = Some e
+then_told None rest = rest
+
+-- where `map_or` makes a refusal of the place that was found
+pub told_by_map_or : (refusal : ℕ → Refusal) (rest : Option Refusal) (r : Option ℕ) (m : Result (Unit {0}) Refusal) {P : ℕ → Type 0}
+    → MatchOption r (m ≡ Ok tt) P → ((i : ℕ) → P i → m ≡ Err (refusal i)) → said refusal rest r ≡ then_told (result_err m) rest
+told_by_map_or refusal rest None m is made = rw is
+told_by_map_or refusal rest (Some i) m is made = rw (made i is)
+
+-- a question that refuses nothing leaves the rest, one that refuses ends them, and after the last there is no rest
+module _ (m : Result (Unit {0}) Refusal) (all rest : Option Refusal) (told : all ≡ then_told (result_err m) rest) where
+  pub went_on : (x : Unit {0}) → m ≡ Ok x → all ≡ rest
+  went_on x was = told ∙ ap (λ (r : Result (Unit {0}) Refusal). then_told (result_err r) rest) was
+
+  pub ended : (e : Refusal) → m ≡ Err e → all ≡ Some e
+  ended e was = told ∙ ap (λ (r : Result (Unit {0}) Refusal). then_told (result_err r) rest) was
+
+pub told_last : (last : Option Refusal) → then_told last None ≡ last
+told_last None = refl
+told_last (Some e) = refl
 
 failed : (b : Bool) → true ≡ not b → b ≡ false
 failed true e = e
@@ -45,3 +71,20 @@ module _ {A : Type 0} (test : A → Bool) (d : A) (xs : List A) (refusal : ℕ �
   -- where each thing passes, the rest of the questions decides
   pub each_passed : ((k : ℕ) → k < length xs → test (get_or xs k d) ≡ true) → ask_each test xs refusal rest ≡ rest
   each_passed all = asked None (λ k e low inside. ap test (get_or_default xs k e d inside) ∙ all k inside)
+
+-- two lists whose things pass alike are asked alike
+module _ {A B : Type 0} (test : A → Bool) (other : B → Bool) (d : A) (e : B) where
+  abbrev Alike : List A → List B → Type 0
+  Alike xs ys = (length xs ≡ length ys) × ((k : ℕ) → k < length xs → test (get_or xs k d) ≡ other (get_or ys k e))
+
+  both : (xs : List A) (ys : List B) → Alike xs ys → (all test xs ≡ all other ys) × (prefix_len test xs ≡ prefix_len other ys)
+  both [] [] alike = (refl, refl)
+  both [] (y ∷ ys) alike = absurd (omega (arith, alike.0))
+  both (x ∷ xs) [] alike = absurd (omega (arith, alike.0))
+  both (x ∷ xs) (y ∷ ys) alike =
+      let here = alike.1 0 (omega arith) in
+      let (a, p) = both xs ys (omega (arith, alike.0), λ k h. alike.1 (suc k) (omega arith)) in
+      (ap₂ ◌&&◌ here a, ap₂ (λ (b : Bool) (n : ℕ). cond b (1 + n) 0) here p)
+
+  pub asked_alike : (xs : List A) (ys : List B) (refusal : ℕ → Refusal) (rest : Option Refusal) → Alike xs ys → ask_each test xs refusal rest ≡ ask_each other ys refusal rest
+  asked_alike xs ys refusal rest alike = let (a, p) = both xs ys alike in ap₂ (λ (b : Bool) (n : ℕ). ask b (refusal n) rest) a p

@@ -9,7 +9,7 @@ ghost use Rattle.page.specs.Pages.{store_of, places_of, page_of};
 use crate::checking::check;
 use crate::encoding::{encode_row, write_place};
 use crate::record::{decode, is_row, records_in};
-use store::{Refusal, Row, Source, admit, arity_in, declared};
+use store::{Refusal, Row, Source, arity_in, declared, place_for};
 
 #[derive(Drop)]
 pub struct Page<'a> {
@@ -80,9 +80,11 @@ impl<'a> Source for Page<'a> {
             .position(|record| *record == sought)
     }
 
+    // `put` and `strike` each find a place and write it. The write is in each, and no call of `Source`, by which any
+    // holder of a source could write past the questions.
     fn put(&mut self, row: &Row) -> Result<usize, Refusal> {
-        admit(self.arity(row.relation), row, self.find(row))?;
-        let place = self.vacant().ok_or(Refusal::NoEmptyPlace)?;
+        let arity = self.arity(row.relation);
+        let place = place_for(arity, row, self.find(row), self.vacant())?;
         write_place(self.bytes, place, Some(*row));
         Ok(place)
     }

@@ -9,7 +9,7 @@ use store::{Row, Source};
 
 // Why no row was put.
 #[derive(Clone, Copy)]
-pub enum Hindrance {
+pub(crate) enum Hindrance {
     // The bytes are no page.
     NoPage(page::Refusal),
     // The page does not take the row.
@@ -42,7 +42,7 @@ fn put_into<S: Source>(source: &mut S, row: &Row) -> Result<usize, store::Refusa
 
 // Puts the row into the page that the bytes are, and tells its place. The bytes are then the page of
 // the rows with this one; where nothing is put they stay as they were.
-pub fn enter(arities: &[u8], bytes: &mut [u8], row: &Row) -> Result<usize, Hindrance>
+pub(crate) fn enter(arities: &[u8], bytes: &mut [u8], row: &Row) -> Result<usize, Hindrance>
     ensures { EnterSays bytes.old bytes.new arities.now row.now result }
 {
     check(bytes, arities)?;

@@ -17,7 +17,7 @@ fn show_record(rt: &HostRuntime, record: &[u8; 20]) -> io::Result<()> {
 }
 
 // Prints the records of the bytes.
-pub fn show_bytes(rt: &HostRuntime, bytes: &[u8]) -> io::Result<()> {
+pub(crate) fn show_bytes(rt: &HostRuntime, bytes: &[u8]) -> io::Result<()> {
     let (records, _) = bytes.as_chunks::<20>();
     for record in records {
         show_record(rt, record)?;
@@ -26,7 +26,7 @@ pub fn show_bytes(rt: &HostRuntime, bytes: &[u8]) -> io::Result<()> {
 }
 
 // Prints what stands at each place of the source over the bytes.
-pub fn show_rows(rt: &HostRuntime, arities: &[u8], bytes: &mut [u8]) -> io::Result<()> {
+pub(crate) fn show_rows(rt: &HostRuntime, arities: &[u8], bytes: &mut [u8]) -> io::Result<()> {
     let page = Page::open(arities, bytes);
     let places = page.places();
     println!(rt; "{places} places")?;
@@ -46,7 +46,7 @@ pub fn show_rows(rt: &HostRuntime, arities: &[u8], bytes: &mut [u8]) -> io::Resu
 }
 
 // Prints whether the bytes are a page.
-pub fn show_check(rt: &HostRuntime, arities: &[u8], bytes: &[u8]) -> io::Result<()> {
+pub(crate) fn show_check(rt: &HostRuntime, arities: &[u8], bytes: &[u8]) -> io::Result<()> {
     match check(bytes, arities) {
         Ok(()) => println!(rt; "it is a page"),
         Err(refusal) => {
@@ -60,7 +60,11 @@ pub fn show_check(rt: &HostRuntime, arities: &[u8], bytes: &[u8]) -> io::Result<
 }
 
 // Prints what became of a row.
-pub fn tell(rt: &HostRuntime, asked: &str, told: Result<usize, Hindrance>) -> io::Result<()> {
+pub(crate) fn tell(
+    rt: &HostRuntime,
+    asked: &str,
+    told: Result<usize, Hindrance>,
+) -> io::Result<()> {
     match told {
         Ok(place) => println!(rt; "{asked}: place {place}"),
         Err(Hindrance::NoPage(refusal)) => println!(rt;

@@ -23,7 +23,7 @@ use Rattle.rules.specs.Views.{listed_as, by_places}
 use Rattle.rules.specs.declared.list.Conflicts.{Conflicts}
 use Rattle.rules.proofs.Apart.{apart_put}
 use Rattle.rules.proofs.Counting.{counted, one_too_many}
-use Rattle.rules.proofs.Fews.{items_few}
+use Rattle.ordered.proofs.Fews.{items_few}
 use Rattle.rules.proofs.Rounds.{enters, round, round_starts, gives_up, up_to_is}
 
 -- conflicts in order of their places have no places twice

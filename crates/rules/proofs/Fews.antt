@@ -1,13 +1,9 @@
--- How many items a `Few` has, and how many rows are chosen.
-use Rattle.std.proofs.Common.{◌≡◌, ℕ, ◌≤◌, List, length, get_or, ap₂, ◌∙◌, sym, arith}
-use Rattle.std.proofs.lemmas.List.{length-map, length-take}
+-- How many rows are chosen.
+use Rattle.std.proofs.Common.{◌≡◌, ℕ, List, length, get_or, ap₂, ◌∙◌, sym}
+use Rattle.std.proofs.lemmas.List.{length-map}
 use Rattle.ordered.specs.Lists.{items_in}
-use Rattle.ordered.specs.declared.few.Few.{Few}
 use Rattle.rules.specs.Beginnings.{Chosen, places_in}
 use Rattle.rules.specs.declared.chosen.Pick.{Pick}
-
-pub items_few : {T : Type 0} {n : ℕ} (few : Few T n) → length (items_in few) ≤ n
-items_few few = omega (arith, length-take few.count few.items, few.within)
 
 pub places_long : (c : Chosen) → length (places_in c) ≡ length (items_in c)
 places_long c = length-map (items_in c) (λ (p : Pick). p.place)

@@ -14,7 +14,7 @@ use Rattle.rules.specs.declared.rule.Rule.{Rule}
 use Rattle.rules.specs.declared.rule.Side.{Side}
 use Rattle.rules.specs.declared.rule.Side.TheVariants.{Column, Constant}
 use Rattle.rules.specs.declared.rule.Comparison.{Comparison}
-use Rattle.rules.proofs.Fews.{items_few}
+use Rattle.ordered.proofs.Fews.{items_few}
 
 module _ (arity : ℕ → ℕ) (narrow : (relation : ℕ) → arity relation ≤ 4) (atoms : List ℕ) where
   side_within_lem : (side : Side) → side_names arity atoms side ≡ true → side_within (length atoms) side ≡ true

@@ -3,9 +3,9 @@ use Rattle.std.proofs.Common.{◌≡◌, ℕ, ◌+◌, ◌<◌, ◌≤◌, Bool,
 use mathlib.Core.List.{Memᴰ}
 use Rattle.std.proofs.lemmas.Bool.{both_ways, and_parts, and_from, or_cases, or_left, or_right, cases_Bool, cases_lt, lt-ltb, ltb-true}
 use Rattle.std.proofs.lemmas.Bool.Decides.{nat_tests}
+use Rattle.std.proofs.lemmas.List.Folds.{list_any_at}
 use Rattle.store.specs.Lists.{all}
 use Rattle.store.specs.declared.row.Row.{Row}
-use Rattle.store.proofs.Scans.{any_here}
 use Rattle.store.proofs.Tests.{same_tests, all_at, all_put}
 use Rattle.rules.specs.Rules.{Denial}
 use Rattle.rules.specs.Listing.{Listed, is_held, forbids, first_is, is_conflict}
@@ -46,7 +46,7 @@ enters table rules known k listed full lt other chosen places c up same fresh fr
     let held : all (λ p. is_held (get_or table p None)) places ≡ true =
     all_put (λ p. is_held (get_or table p None)) places (λ p m. all_at (λ p. is_held (get_or table p None)) (member_of places chosen (λ q. sym (same q)) p m) c.held) in
     let forbid : forbids table places (get_or rules k other) ≡ true = choice_forbids table (get_or rules k other) chosen places same c.broken in
-    let (j, first) = first_put (forbids table places) rules (any_here (forbids table places) rules k other lt forbid) in
+    let (j, first) = first_put (forbids table places) rules (list_any_at (forbids table places) rules k other lt forbid) in
     let low : j ≤ k = first_least (forbids table places) rules j k other first lt forbid in
     let d : Listed = record { places = places; rule = j } in
     let is : is_conflict table rules d ≡ true = conflict_from table rules d up held first in

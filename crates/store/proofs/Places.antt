@@ -1,13 +1,13 @@
 -- Places before and after a row is put or struck.
 use Rattle.std.proofs.Common.{◌≡◌, ℕ, ◌<◌, ◌≤◌, true, false, ◌&&◌, ltb, ◌≢◌, ◌⊎◌, List, length, get_or, set, replicate, is_some, Some, None, Option, sym, refl, ap, ◌∙◌, subst, ⊎_elim, arith, get_or-set_other, get_or-set_same}
 use Rattle.std.proofs.lemmas.List.{get_or_past, get_or-replicate, length-replicate}
+use Rattle.std.proofs.lemmas.List.Folds.{list_any_at}
 use Rattle.std.proofs.lemmas.Bool.{both_ways, and_from}
 use Rattle.store.specs.declared.row.Row.{Row}
 use Rattle.store.specs.Lists.{any}
 use Rattle.store.specs.Places.{OnceIn, FitIn}
 use Rattle.store.specs.Rows.{arity_in, zero_from}
 use Rattle.store.specs.Store.{is_row}
-use Rattle.store.proofs.Scans.{any_here, any_nowhere}
 use Rattle.store.proofs.Alike.{same_row_refl}
 
 pub cut : (p n : ℕ) → (p < n) ⊎ (n ≤ p)
@@ -25,11 +25,11 @@ inside places p row e = ⊎_elim (λ lt. lt) (λ ge. absurd (never (sym (get_or_
 
 -- a place that has the row shows that it is held
 pub held_at : (places : List (Option Row)) (p : ℕ) (row : Row) → get_or places p None ≡ Some row → any (is_row row) places ≡ true
-held_at places p row e = any_here (is_row row) places p None (inside places p row e) (ap (is_row row) e ∙ same_row_refl row)
+held_at places p row e = list_any_at (is_row row) places p None (inside places p row e) (ap (is_row row) e ∙ same_row_refl row)
 
 -- a row that is not held stands nowhere
 pub free_of : (places : List (Option Row)) (row : Row) → any (is_row row) places ≡ false → (p : ℕ) → get_or places p None ≡ Some row → ⊥
-free_of places row none p e = any_nowhere (is_row row) places p None (inside places p row e) none (ap (is_row row) e ∙ same_row_refl row)
+free_of places row none p e = both_ways _ none (held_at places p row e)
 
 -- a list of empty places has nothing anywhere
 nothing : (n p : ℕ) → get_or (replicate {A = Option Row} n None) p None ≡ None

@@ -1,5 +1,5 @@
 -- What a source means: an arity for each relation, and places that each hold a row or nothing.
-use Rattle.std.specs.Prelude.{◌≡◌, ℕ, ◌<◌, ◌≤◌, Bool, true, false, not, ◌&&◌, List, length, Some, None, Ok, Err, Option, Result, nat_lt, slice_index_or, slice_set}
+use Rattle.std.specs.Prelude.{◌≡◌, ℕ, ◌<◌, ◌≤◌, Bool, true, false, not, ◌&&◌, List, length, is_some, Some, None, Ok, Err, Option, Result, nat_lt, slice_index_or, slice_set}
 use Rattle.fault.specs.Questions.{ask}
 use Rattle.store.specs.Lists.{any}
 use Rattle.store.specs.Places.{OnceIn}
@@ -68,12 +68,18 @@ put_refusal s row =
     (ask (not (holds s row)) AlreadyHeld
     (ask (has_empty s) NoEmptyPlace None)))
 
--- the first three of them, of the arity of the row's relation and of whether the row is held
-abbrev pub admission : ℕ → Row → Bool → Option Refusal
-admission arity row held =
+-- the same questions, of the arity of the row's relation, of whether the row is held and of whether some place is empty
+abbrev pub admission : ℕ → Row → Bool → Bool → Option Refusal
+admission arity row held empty =
     ask (nat_lt 0 arity) Undeclared
     (ask (zero_from arity row.columns) Unfit
-    (ask (not held) AlreadyHeld None))
+    (ask (not held) AlreadyHeld
+    (ask empty NoEmptyPlace None)))
+
+-- a row that they let in gets the empty place that was found
+abbrev pub PlaceSays : ℕ → Row → Option ℕ → Option ℕ → Result ℕ Refusal → Type 0
+PlaceSays arity row held vacant (Ok p) = (admission arity row (is_some held) (is_some vacant) ≡ None) × (vacant ≡ Some p)
+PlaceSays arity row held vacant (Err e) = admission arity row (is_some held) (is_some vacant) ≡ Some e
 
 -- a row that is put stands at one place that was empty, and all else is as it was
 pub record Put (before after : Store) (row : Row) (p : ℕ) : Type 0 where

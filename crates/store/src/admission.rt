@@ -1,16 +1,19 @@
-// Whether a source takes a row, but for an empty place.
-ghost use Rattle.std.specs.Prelude.{◌≡◌, is_some};
-ghost use Rattle.std.specs.Result.{result_err};
-ghost use Rattle.store.specs.Store.{admission};
+// Whether a source takes a row, and where.
+ghost use Rattle.store.specs.Store.{PlaceSays};
 
 use crate::arity::zero_from;
 use crate::refusal::Refusal;
 use crate::row::Row;
 
-// The first three questions of `put`, the same in every source: of the arity of the row's relation, of the row, and of
-// the place where it stands already.
-pub fn admit(arity: u8, row: &Row, held: Option<usize>) -> Result<(), Refusal>
-    ensures { result_err result ≡ admission arity row.now (is_some held) }
+// The place where `put` puts a row, by its questions, which are the same in every source: of the arity of the row's
+// relation, of the row, of the place where it stands already, and of a place that is empty.
+pub fn place_for(
+    arity: u8,
+    row: &Row,
+    held: Option<usize>,
+    vacant: Option<usize>,
+) -> Result<usize, Refusal>
+    ensures { PlaceSays arity row.now held vacant result }
 {
     if arity == 0 {
         return Err(Refusal::Undeclared);
@@ -21,5 +24,5 @@ pub fn admit(arity: u8, row: &Row, held: Option<usize>) -> Result<(), Refusal>
     if held.is_some() {
         return Err(Refusal::AlreadyHeld);
     }
-    Ok(())
+    vacant.ok_or(Refusal::NoEmptyPlace)
 }

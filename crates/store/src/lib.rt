@@ -12,7 +12,7 @@ mod sign;
 mod source;
 mod table;
 
-pub use admission::admit;
+pub use admission::place_for;
 pub use arity::{arity_in, declared, zero_from};
 pub use refusal::Refusal;
 pub use row::Row;

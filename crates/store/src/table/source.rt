@@ -5,7 +5,7 @@ ghost use Rattle.store.specs.Rows.{arity_in};
 ghost use Rattle.store.specs.Tables.{table_model, VacantSays};
 
 use super::Table;
-use crate::admission::admit;
+use crate::admission::place_for;
 use crate::arity::{arity_in, declared};
 use crate::refusal::Refusal;
 use crate::row::Row;
@@ -54,9 +54,11 @@ impl Source for Table {
         self.cells.iter().position(|cell| *cell == Some(*row))
     }
 
+    // `put` and `strike` each find a place and write it. The write is in each, and no call of `Source`, by which any
+    // holder of a source could write past the questions.
     fn put(&mut self, row: &Row) -> Result<usize, Refusal> {
-        admit(self.arity(row.relation), row, self.find(row))?;
-        let place = vacant(&self.cells).ok_or(Refusal::NoEmptyPlace)?;
+        let arity = self.arity(row.relation);
+        let place = place_for(arity, row, self.find(row), vacant(&self.cells))?;
         self.cells[place] = Some(*row);
         Ok(place)
     }
