@@ -1,13 +1,12 @@
 -- What put's questions come to, from the answers to all of them.
 use Rattle.std.proofs.Common.{◌≡◌, ℕ, Bool, true, false, not, is_some, Some, None, Option, sym, refl, ap, ap₂, ◌∙◌}
+use Rattle.std.proofs.lemmas.List.Folds.{list_any_at}
 use Rattle.std.proofs.lemmas.Option.{none-some}
 use Rattle.fault.specs.Questions.{ask}
 use Rattle.store.specs.Store.{Store, FindSays, declares, ends_in_zeros, holds, has_empty, is_empty, put_refusal, admission}
 use Rattle.store.specs.Tables.{VacantSays}
 use Rattle.store.specs.declared.row.Row.{Row}
-use Rattle.store.specs.declared.refusal.Refusal.{Refusal}
 use Rattle.store.specs.declared.refusal.Refusal.TheVariants.{Undeclared, Unfit, AlreadyHeld, NoEmptyPlace}
-use Rattle.std.proofs.lemmas.List.Folds.{list_any_at}
 use Rattle.store.proofs.Places.{held_at}
 
 -- they are put's, where the arity, the row's place and an empty place were looked for

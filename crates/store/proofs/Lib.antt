@@ -1,4 +1,5 @@
 pub mod Tests
+pub mod Handed
 pub mod Alike
 pub mod Places
 pub mod Asked

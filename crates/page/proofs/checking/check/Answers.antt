@@ -1,10 +1,10 @@
-use Rattle.std.proofs.Common.{◌≡◌, ℕ, ◌%◌, ◌<◌, ◌&&◌, Bool, not, List, [], length, get_or, take, None, Err, Option, sym, ap, ◌∙◌, zero-add, rules, arith}
+use Rattle.std.proofs.Common.{◌≡◌, ℕ, ◌%◌, ◌<◌, ◌&&◌, Bool, not, List, [], length, get_or, take, None, Option, sym, ap, ◌∙◌, zero-add, rules, arith}
 use Rattle.std.proofs.Math.Bool.{not-not}
 use Rattle.std.proofs.lemmas.Bool.{le-leb, eq-eqb}
 use Rattle.std.proofs.lemmas.Iterator.{YieldsList-from_slice}
 use Rattle.std.proofs.lemmas.Iterator.Consumers.{YieldsList-from_enumerate}
 use Rattle.std.proofs.lemmas.List.FromFn.{length-range_with_len, get_or-range_with_len, length-enumerate_from, get_or-enumerate_from}
-use Rattle.std.proofs.lemmas.Result.{err_from_is_err_and}
+use Rattle.store.proofs.Handed.{handed_on}
 use Rattle.std.specs.List.{range_with_len, enumerate_from}
 use Rattle.std.specs.Result.{result_err}
 use Rattle.std.specs.Slice.Iter.{iter_rest}
@@ -80,14 +80,12 @@ third c =
 pub returns-in_err-map_or-clause-says : goal.returns-in_err-map_or-clause-says
 returns-in_err-map_or-clause-says c =
     let at = goal.at.returns-in_err-map_or-clause-says c in
-    let p = err_from_is_err_and c.from_residual.result c.from_residual.ensures.1 in
-    ap result_err (p.1 ∙ ap Err p.2) ∙ sym (ended _ _ _ (first at.After-map_or) _ c.in_err-map_or.was)
+    ap result_err (handed_on c.from_residual.result c.from_residual.ensures.1) ∙ sym (ended _ _ _ (first at.After-map_or) _ c.in_err-map_or.was)
 
 pub returns-in_err-map_or-2-clause-says : goal.returns-in_err-map_or-2-clause-says
 returns-in_err-map_or-2-clause-says c =
     let at = goal.at.returns-in_err-map_or-2-clause-says c in
-    let p = err_from_is_err_and c.from_residual-in_err-map_or-2.result c.from_residual-in_err-map_or-2.ensures.1 in
-    ap result_err (p.1 ∙ ap Err p.2) ∙ sym (went_on _ _ _ (first at.After-map_or) _ c.in_ok-map_or.was ∙ ended _ _ _ (second at.After-map_or-2) _ c.in_err-map_or-2.was)
+    ap result_err (handed_on c.from_residual-in_err-map_or-2.result c.from_residual-in_err-map_or-2.ensures.1) ∙ sym (went_on _ _ _ (first at.After-map_or) _ c.in_ok-map_or.was ∙ ended _ _ _ (second at.After-map_or-2) _ c.in_err-map_or-2.was)
 
 pub returns : goal.returns
 returns c =

@@ -1,5 +1,5 @@
 use Rattle.std.proofs.Common.{◌≡◌, Err, None, sym, ap, ◌∙◌, subst, rules}
-use Rattle.std.proofs.lemmas.Result.{err_from_is_err_and}
+use Rattle.store.proofs.Handed.{handed_on}
 use Rattle.store.specs.Store.{Store, put_refusal}
 use Rattle.page.specs.Checks.{check_refusal}
 use Rattle.page.proofs.Opened.{opened_store}
@@ -10,8 +10,7 @@ pub returns-in_err-place : goal.returns-in_err-place
 returns-in_err-place c =
     let passes : check_refusal c.args.bytes.now c.args.arities.now ≡ None = sym c.in_ok-check.ensures.says in
     let same = opened_store c.args.bytes.now c.args.arities.now _ passes c.open-page.ensures.model in
-    let p = err_from_is_err_and c.from_residual-in_err-place.result c.from_residual-in_err-place.ensures.1 in
-    subst (EnterSays c.args.bytes.now _ c.args.arities.now c.args.row.now) (sym (p.1 ∙ ap Err p.2)) ((passes, ap (λ (s : Store). put_refusal s c.args.row.now) (sym same) ∙ c.in_err-place.ensures.says.1), search rules)
+    subst (EnterSays c.args.bytes.now _ c.args.arities.now c.args.row.now) (sym (handed_on c.from_residual-in_err-place.result c.from_residual-in_err-place.ensures.1)) ((passes, ap (λ (s : Store). put_refusal s c.args.row.now) (sym same) ∙ c.in_err-place.ensures.says.1), search rules)
 
 pub returns : goal.returns
 returns c =

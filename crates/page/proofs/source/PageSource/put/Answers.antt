@@ -1,5 +1,5 @@
-use Rattle.std.proofs.Common.{◌≡◌, ℕ, List, Some, None, Err, sym, refl, ap, ◌∙◌, subst, arith}
-use Rattle.std.proofs.lemmas.Result.{err_from_is_err_and}
+use Rattle.std.proofs.Common.{◌≡◌, ℕ, List, Some, None, sym, refl, ap, ◌∙◌, subst, arith}
+use Rattle.store.proofs.Handed.{handed_on}
 use Rattle.store.specs.Store.{PutSays, put_refusal}
 use Rattle.store.specs.Tables.{VacantSays}
 use Rattle.store.proofs.Asked.{asked, admitted}
@@ -16,8 +16,7 @@ pub returns-in_err-place-clause-says : goal.returns-in_err-place-clause-says
 returns-in_err-place-clause-says c =
     let s = page_model c.args.self.now in
     let row = c.args.row.now in
-    let p = err_from_is_err_and c.from_residual.result c.from_residual.ensures.1 in
-    subst (PutSays s s row) (sym (p.1 ∙ ap Err p.2)) (refl, asked s row _ _ c.arity-arity.ensures c.find.ensures c.vacant.ensures ∙ c.in_err-place.ensures)
+    subst (PutSays s s row) (sym (handed_on c.from_residual.result c.from_residual.ensures.1)) (refl, asked s row _ _ c.arity-arity.ensures c.find.ensures c.vacant.ensures ∙ c.in_err-place.ensures)
 
 -- the row is granted the place, which is empty
 granted : (c : In_ok-place) → put_refusal (page_model c.args.self.now) c.args.row.now ≡ None

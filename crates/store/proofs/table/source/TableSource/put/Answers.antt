@@ -1,5 +1,5 @@
-use Rattle.std.proofs.Common.{Err, Some, sym, refl, ap, ◌∙◌, subst, length-set}
-use Rattle.std.proofs.lemmas.Result.{err_from_is_err_and}
+use Rattle.std.proofs.Common.{sym, refl, ◌∙◌, subst, length-set}
+use Rattle.store.proofs.Handed.{handed_on}
 use Rattle.store.specs.Store.{PutSays}
 use Rattle.store.specs.Tables.{table_model, VacantSays}
 use Rattle.store.proofs.Asked.{asked, admitted}
@@ -10,8 +10,7 @@ pub returns-in_err-place-clause-says : goal.returns-in_err-place-clause-says
 returns-in_err-place-clause-says c =
     let s = table_model c.args.self.now in
     let row = c.args.row.now in
-    let p = err_from_is_err_and c.from_residual.result c.from_residual.ensures.1 in
-    subst (PutSays s s row) (sym (p.1 ∙ ap Err p.2)) (refl, asked s row _ _ c.arity-arity.ensures c.find.ensures c.vacant.ensures ∙ c.in_err-place.ensures)
+    subst (PutSays s s row) (sym (handed_on c.from_residual.result c.from_residual.ensures.1)) (refl, asked s row _ _ c.arity-arity.ensures c.find.ensures c.vacant.ensures ∙ c.in_err-place.ensures)
 
 pub invariant_of-self : goal.invariant_of-self
 invariant_of-self c =
