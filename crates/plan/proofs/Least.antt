@@ -2,13 +2,14 @@
 use Rattle.std.proofs.Common.{◌≡◌, ℕ, ◌+◌, ◌<◌, Bool, true, false, cond, ◌&&◌, eqb, List, [], ◌∷◌, ◌++◌, map, length, get_or, take, Some, None, filter, Option, sym, refl, ap, ◌∙◌, subst, inl, inr, append-nil}
 use mathlib.Core.List.Memᴰ
 use mathlib.Core.List.{Memᴰ}
+use Rattle.std.specs.Prelude.{MatchOption}
 use Rattle.std.specs.Bool.{then_some}
 use Rattle.std.proofs.lemmas.List.{take_more}
 use Rattle.std.proofs.lemmas.Bool.{both_ways}
 use Rattle.store.specs.declared.row.Row.{Row}
 use Rattle.store.proofs.Tests.{from_not}
 use Rattle.plan.specs.Leaves.{matches, opened, leaf_lines}
-use Rattle.plan.specs.Seeking.{reaches, Padded, Least, lesser}
+use Rattle.plan.specs.Seeking.{reaches, Padded, Single, Least, lesser}
 use Rattle.plan.specs.Streams.{rows_at, before}
 use Rattle.plan.specs.declared.node.Field.{Field}
 use Rattle.std.specs.declared.ops.Bound.{Bound}
@@ -54,25 +55,17 @@ module _ (start : Bound (List ℕ)) (w : ℕ) where
       (Memᴰ.append_left qs i, r, (λ t n q. elim (Memᴰ.append_cases ps n) [ inl a ↦ f t a q | inr a ↦ absurd (both_ways (reaches start t) (g t a) q) ]), l, z)
   least_append ps qs (Some x) (Some y) f g = both_some ps qs x y f g (before (take w y) (take w x)) refl
 
-  -- ---- one row at a leaf
-  module _ (relation : ℕ) (fields : List Field) (row : Row) where
-    abbrev Test : Bool
-    Test = eqb relation row.relation && matches fields row.columns
+  -- ---- of one line at most, whether the search reaches it
+  single_if : (lines : List (List ℕ)) (a : List ℕ) → Single lines w (Some a) → (b : Bool) → b ≡ reaches start (take w a) → Least lines start w (then_some b a)
+  single_if lines a (is, l, z) true near = subst (λ ts. Least ts start w (Some a)) (sym is)
+      (Memᴰ.head refl, sym near, (λ t m q. elim m [ Memᴰ.head p ↦ subst (λ u. before u (take w a) ≡ false) (sym p) (irreflexive (take w a)) | Memᴰ.tail n ↦ elim n [ ] ]), l, z)
+  single_if lines a (is, l, z) false far = subst (λ ts. Least ts start w None) (sym is)
+      (λ t m. elim m [ Memᴰ.head p ↦ subst (λ u. reaches start u ≡ false) (sym p) (sym far) | Memᴰ.tail n ↦ elim n [ ] ])
 
-    pub row_no : Test ≡ false → Least (leaf_lines relation fields (row ∷ [])) start w None
-    row_no e = subst (λ b. Least (map (λ r. opened fields r.columns) (cond b (row ∷ []) [])) start w None) (sym e) least_none
-
-    row_far : Test ≡ true → (a : List ℕ) → take w a ≡ opened fields row.columns → reaches start (take w a) ≡ false → Least (leaf_lines relation fields (row ∷ [])) start w None
-    row_far e a is far = subst (λ b. Least (map (λ r. opened fields r.columns) (cond b (row ∷ []) [])) start w None) (sym e)
-        (λ t m. elim m [ Memᴰ.head p ↦ subst (λ u. reaches start u ≡ false) (is ∙ sym p) far | Memᴰ.tail n ↦ elim n [ ] ])
-
-    row_yes : Test ≡ true → (a : List ℕ) → take w a ≡ opened fields row.columns → reaches start (take w a) ≡ true → length a ≡ 8 → Padded w a → Least (leaf_lines relation fields (row ∷ [])) start w (Some a)
-    row_yes e a is near l z = subst (λ b. Least (map (λ r. opened fields r.columns) (cond b (row ∷ []) [])) start w (Some a)) (sym e)
-        (Memᴰ.head is, near, (λ t m q. elim m [ Memᴰ.head p ↦ subst (λ u. before u (take w a) ≡ false) (is ∙ sym p) (irreflexive (take w a)) | Memᴰ.tail n ↦ elim n [ ] ]), l, z)
-
-    pub row_if : Test ≡ true → (a : List ℕ) → take w a ≡ opened fields row.columns → (b : Bool) → b ≡ reaches start (take w a) → length a ≡ 8 → Padded w a → Least (leaf_lines relation fields (row ∷ [])) start w (then_some b a)
-    row_if e a is true near l z = row_yes e a is (sym near) l z
-    row_if e a is false far l z = row_far e a is (sym far)
+  pub single_least : (P : List ℕ → Bool → Type 0) (lines : List (List ℕ)) (r o : Option (List ℕ)) → Single lines w r → ((a : List ℕ) (b : Bool) → P a b → b ≡ reaches start (take w a)) →
+      MatchOption r (o ≡ None) (λ a. (b : Bool) × P a b × (o ≡ then_some b a)) → Least lines start w o
+  single_least P lines None o e says f = rw f (subst (λ ts. Least ts start w None) (sym e) least_none)
+  single_least P lines (Some a) o one says (b, p, f) = rw f (single_if lines a one b (says a b p))
 
 -- a leaf's lines over more rows, and the rows at more places
 leaf_append : (relation : ℕ) (fields : List Field) (xs ys : List Row) → leaf_lines relation fields (xs ++ ys) ≡ leaf_lines relation fields xs ++ leaf_lines relation fields ys

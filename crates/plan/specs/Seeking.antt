@@ -1,5 +1,5 @@
 -- The search for the least line from a start on.
-use Rattle.std.specs.Prelude.{◌≡◌, ℕ, ◌≤◌, Bool, true, false, cond, not, List, length, take, Some, None, Option, slice_index}
+use Rattle.std.specs.Prelude.{◌≡◌, ℕ, ◌≤◌, Bool, true, false, cond, not, List, [], ◌∷◌, length, take, Some, None, Option, slice_index}
 use mathlib.Core.List.{Memᴰ}
 use Rattle.plan.specs.Streams.{before}
 use Rattle.std.specs.declared.ops.Bound.{Bound}
@@ -14,6 +14,11 @@ reaches (Excluded at) line = before at line
 -- the array is zero from the width on
 abbrev pub Padded : ℕ → List ℕ → Type 0
 Padded width columns = (k : ℕ) → width ≤ k → slice_index columns k ≡ 0
+
+-- the lines are none, or this one, as an array of eight of which so many columns count
+abbrev pub Single : List (List ℕ) → ℕ → Option (List ℕ) → Type 0
+Single lines width None = lines ≡ []
+Single lines width (Some columns) = (lines ≡ take width columns ∷ []) × (length columns ≡ 8) × Padded width columns
 
 -- the least of the lines that the search reaches, as an array of eight of which so many columns count
 abbrev pub Least : List (List ℕ) → Bound (List ℕ) → ℕ → Option (List ℕ) → Type 0

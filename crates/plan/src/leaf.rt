@@ -1,8 +1,11 @@
-// One leaf: what it asks of a row's columns, and the row that a line names there.
-ghost use Rattle.std.specs.Prelude.{◌≡◌, ◌≤◌, length};
-ghost use Rattle.plan.specs.Leaves.{fields_of, opens, named};
+// One leaf: what it asks of a row's columns, the row that a line names there, and the line that a row gives there.
+ghost use Rattle.std.specs.Prelude.{◌≡◌, ◌≤◌, List, [], ◌∷◌, length};
+ghost use Rattle.plan.specs.declared.node.Field.{Field};
+ghost use Rattle.plan.specs.Leaves.{fields_of, opens, leaf_lines, filled, named};
+ghost use Rattle.plan.specs.Seeking.{Single};
 
 use crate::node::Field;
+use ordered::Few;
 use store::Row;
 
 // A leaf of a plan.
@@ -21,48 +24,69 @@ impl PlanLeaf {
     pub(crate) fn new(node: usize, relation: u16, arity: u8, fields: [Field; 4]) -> PlanLeaf
         ensures { result ≡ record { node = node; relation = relation; arity = arity; fields = fields_of arity fields } }
     {
+        let mut all = fields;
+        all[(arity as usize).min(4)..].fill(Field::Fixed(0));
         PlanLeaf {
             node,
             relation,
             arity,
-            fields: fields_of(arity, fields),
+            fields: all,
         }
     }
-}
 
-// The fields that count: those from the arity on are fixed at zero.
-pub fn fields_of(arity: u8, fields: [Field; 4]) -> [Field; 4]
-    ensures { result ≡ fields_of arity fields }
-{
-    let mut all = fields;
-    all[(arity as usize).min(4)..].fill(Field::Fixed(0));
-    all
-}
-
-// How many of the fields are open.
-pub fn open_count(fields: [Field; 4]) -> usize
-    ensures count { result ≡ opens fields }
-    ensures few { result ≤ 4 }
-{
-    fields
-        .iter()
-        .filter(|field| matches!(field, Field::Open))
-        .count()
-}
-
-// The row that a line names at a leaf: its constants, and the line's numbers at its open fields.
-pub fn named_row(relation: u16, fields: [Field; 4], line: &[u32]) -> Row
-    requires { length line.now ≡ opens fields }
-    ensures { result ≡ named relation fields line.now }
-{
-    let mut columns = [0; 4];
-    let mut numbers = line.iter();
-    // Tried with `columns.iter_mut().zip(&fields)`: the invariant does not see `columns` there, and the proof did not close.
-    for (i, field) in fields.iter().enumerate() {
-        columns[i] = match *field {
-            Field::Open => *numbers.next().unwrap_or(&0),
-            Field::Fixed(constant) => constant,
-        };
+    // How many columns its lines have: one for each open field.
+    pub(crate) fn width(&self) -> usize
+        ensures count { result ≡ opens self.now.fields }
+        ensures few { result ≤ 4 }
+    {
+        self.fields
+            .iter()
+            .filter(|field| matches!(field, Field::Open))
+            .count()
     }
-    Row { relation, columns }
+
+    // The row that a line names here: the leaf's constants, and the line's numbers at its open fields.
+    pub(crate) fn named(&self, line: &[u32]) -> Row
+        requires { length line.now ≡ opens self.now.fields }
+        ensures { result ≡ named self.now.relation self.now.fields line.now }
+    {
+        let mut numbers = line.iter();
+        let columns = self.fields.map(
+            |field|
+                ensures { (fields : List Field) → filled (field ∷ fields) numbers.entry.rest.now ≡ result ∷ filled fields numbers.exit.rest.now }
+            {
+                match field {
+                    Field::Open => *numbers.next().unwrap_or(&0),
+                    Field::Fixed(constant) => constant,
+                }
+            },
+        );
+        Row {
+            relation: self.relation,
+            columns,
+        }
+    }
+
+    // The line that a row gives here, if it is of the relation and has the constants: its numbers at the open fields.
+    pub(crate) fn line_of(&self, row: &Row) -> Option<[u32; 8]>
+        ensures { Single (leaf_lines self.now.relation self.now.fields (row.now ∷ [])) (opens self.now.fields) result }
+    {
+        if row.relation != self.relation {
+            return None;
+        }
+        let mut open = Few::<u32, 4>::new(0);
+        for (field, column) in self.fields.iter().zip(&row.columns) {
+            match *field {
+                Field::Open => open.push(*column),
+                Field::Fixed(constant) => {
+                    if constant != *column {
+                        return None;
+                    }
+                }
+            }
+        }
+        let mut line = [0; 8];
+        line[..open.len()].copy_from_slice(open.as_slice());
+        Some(line)
+    }
 }

@@ -3,7 +3,7 @@ ghost use Rattle.std.specs.Prelude.{◌≡◌, ◌≤◌, length, Some, MatchRes
 ghost use Rattle.plan.specs.Filling.{poor_at, Spots};
 ghost use Rattle.plan.specs.Gathering.{Gathered};
 
-use crate::leaf::{PlanLeaf, open_count};
+use crate::leaf::PlanLeaf;
 use crate::node::{Field, Node};
 use ordered::Few;
 
@@ -21,7 +21,7 @@ pub fn gather(nodes: &[Node]) -> Result<Few<PlanLeaf, 6>, usize>
         } = *node
         {
             let leaf = PlanLeaf::new(k, relation, arity, fields);
-            if leaves.len() >= 6 || arity == 0 || arity > 4 || open_count(leaf.fields) == 0 {
+            if leaves.len() >= 6 || arity == 0 || arity > 4 || leaf.width() == 0 {
                 return Err(k);
             }
             leaves.push(leaf);

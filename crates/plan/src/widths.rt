@@ -5,7 +5,7 @@ ghost use Rattle.plan.specs.Filling.{Earlier, inside, sides_fit, unfit_at, Spots
 ghost use Rattle.plan.specs.Nodes.{late};
 ghost use Rattle.plan.specs.Parts.{Measured};
 
-use crate::leaf::{fields_of, open_count};
+use crate::leaf::PlanLeaf;
 use crate::node::{Node, Op, Side};
 
 // Whether a side can be compared in a line of this width.
@@ -50,7 +50,11 @@ fn width_of(node: Node, k: usize, widths: &[u8; 16]) -> u8
     ensures { result ≡ width_of widths.now node }
 {
     match node {
-        Node::Leaf { arity, fields, .. } => open_count(fields_of(arity, fields)) as u8,
+        Node::Leaf {
+            relation,
+            arity,
+            fields,
+        } => PlanLeaf::new(k, relation, arity, fields).width() as u8,
         Node::Choice { node, .. } => widths[node as usize],
         Node::Pair { op, left, right } => match op {
             Op::Product => widths[left as usize] + widths[right as usize],

@@ -10,7 +10,7 @@ ghost use Rattle.plan.specs.Plans.{nodes_of, widths_of};
 ghost use Rattle.plan.specs.Truths.{part_at, named_rows};
 
 use super::Plan;
-use crate::leaf::{PlanLeaf, named_row};
+use crate::leaf::PlanLeaf;
 use crate::line::Line;
 use store::Row;
 
@@ -62,7 +62,7 @@ impl Plan {
         requires wide { slice_index (widths_of self.now) leaf.now.node ≡ opens leaf.now.fields }
         ensures { result ≡ named leaf.now.relation leaf.now.fields (part_at self.now line.now.columns leaf.now.node) }
     {
-        named_row(leaf.relation, leaf.fields, self.part(leaf.node, line))
+        leaf.named(self.part(leaf.node, line))
     }
 
     // The row that a line names at the leaf with this number.

@@ -7,7 +7,7 @@ use Rattle.plan.specs.Filling.{poor, poor_at}
 use Rattle.plan.specs.declared.node.Node.TheVariants.{Leaf}
 use Rattle.plan.proofs.Firsts.{spots_at, first_none}
 use Rattle.plan.proofs.leaves.gather.Goals as goal
-use Rattle.plan.proofs.leaves.gather.Goals.{then-len-ge6-via-then-len-ge6, then-len-ge6-via-else-len-ge6+then-arity-eq0, then-len-ge6-via-else-len-ge6+else-arity-eq0+then-arity-gt4, then-len-ge6-via-else-len-ge6+else-arity-eq0+else-arity-gt4+then-open_count-eq0}
+use Rattle.plan.proofs.leaves.gather.Goals.{then-len-ge6-via-then-len-ge6, then-len-ge6-via-else-len-ge6+then-arity-eq0, then-len-ge6-via-else-len-ge6+else-arity-eq0+then-arity-gt4, then-len-ge6-via-else-len-ge6+else-arity-eq0+else-arity-gt4+then-width-eq0}
 
 pub returns-then-len-ge6 : goal.returns-then-len-ge6
 returns-then-len-ge6 c =
@@ -18,7 +18,7 @@ returns-then-len-ge6 c =
       | then-len-ge6-via-then-len-ge6 w ↦ search (rules, or_left, or_right, le-leb, lt-ltb, eq-eqb)
       | then-len-ge6-via-else-len-ge6+then-arity-eq0 w ↦ search (rules, or_left, or_right, le-leb, lt-ltb, eq-eqb)
       | then-len-ge6-via-else-len-ge6+else-arity-eq0+then-arity-gt4 w ↦ search (rules, or_left, or_right, le-leb, lt-ltb, eq-eqb)
-      | then-len-ge6-via-else-len-ge6+else-arity-eq0+else-arity-gt4+then-open_count-eq0 w ↦ search (rules, or_left, or_right, le-leb, lt-ltb, eq-eqb)
+      | then-len-ge6-via-else-len-ge6+else-arity-eq0+else-arity-gt4+then-width-eq0 w ↦ search (rules, or_left, or_right, le-leb, lt-ltb, eq-eqb)
     ] in
     spots_at (poor_at nodes) (length nodes) c.loop-k.k (omega arith) (ap₂ poor (sym c.loop-k.invariant.1) l.is ∙ fails) c.loop-k.invariant.0
 
