@@ -27,7 +27,7 @@ impl<T: Copy, const N: usize> Clone for Few<T, N> {
 }
 
 impl<T: Copy, const N: usize> Few<T, N> {
-    ghost use Rattle.std.specs.Prelude.{◌≡◌, ◌<◌, ◌≤◌, Bool, [], ◌∷◌, ◌++◌, length, filter};
+    ghost use Rattle.std.specs.Prelude.{◌≡◌, ◌<◌, ◌≤◌, Bool, [], ◌∷◌, ◌++◌, length, filter, slice_set};
     ghost use Rattle.std.specs.Fn.{FnReturnsAt};
     ghost use Rattle.ordered.specs.Lists.{items_in};
 
@@ -77,6 +77,14 @@ impl<T: Copy, const N: usize> Few<T, N> {
     {
         self.items[self.count] = item;
         self.count += 1;
+    }
+
+    // This item at a place that is in use, where another stood.
+    pub fn set(&mut self, place: usize, item: T)
+        requires { place < length (items_in self.old) }
+        ensures { items_in self.new ≡ slice_set (items_in self.old) place item }
+    {
+        self.items[place] = item;
     }
 
     // No items any more.

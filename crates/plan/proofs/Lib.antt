@@ -7,7 +7,7 @@ pub mod Grown
 pub mod Measures
 pub mod Writes
 pub mod Offsetting
-pub mod Kept
+pub mod Stepping
 pub mod Asked
 pub mod Numbering
 pub mod PlanNodes

@@ -1,6 +1,6 @@
 -- The widths of nodes, from an array that has those of the nodes before.
-use Rattle.std.proofs.Common.{◌≡◌, ℕ, ◌<◌, true, false, not, ◌&&◌, leb, List, [], length, get_or, sym, refl, ap, ◌∙◌, subst, ap₂, arith}
-use Rattle.std.proofs.lemmas.Bool.{leb-false, and_parts, not-false}
+use Rattle.std.proofs.Common.{◌≡◌, ℕ, ◌<◌, ◌≤◌, true, false, not, ◌&&◌, leb, List, [], length, get_or, sym, refl, ap, ◌∙◌, subst, ap₂, arith}
+use Rattle.std.proofs.lemmas.Bool.{leb-false, leb-true, and_parts, not-false}
 use Rattle.store.specs.declared.sign.Sign.{Sign}
 use Rattle.plan.specs.Leaves.{fields_of, opens}
 use Rattle.plan.specs.Nodes.{grown, blank, late}
@@ -37,6 +37,15 @@ module _ (nodes : List Node) (early : Earlier nodes) (k : ℕ) (within : k < len
 
     pub unfit_by : unfit ws (get_or nodes k blank) ≡ unfit_at nodes k
     unfit_by = unfit_local ws (grown width_of [] nodes) k same (get_or nodes k blank) (early k within)
+
+-- nodes of which none fails are no wider than 8
+pub measured : (nodes : List Node) → Earlier nodes → (ws : List ℕ) → ws ≡ grown width_of [] nodes → ((j : ℕ) → j < length nodes → unfit_at nodes j ≡ false) → Measured nodes (length nodes) ws
+measured nodes early ws e fits j h =
+    let all : List ℕ = grown width_of [] nodes in
+    let node : Node = get_or nodes j blank in
+    let same : get_or ws j 0 ≡ width_at nodes j = ap (λ l. get_or l j 0) e in
+    let small : width_of all node ≤ 8 = leb-true (width_of all node) 8 (and_parts (sides_fit all node) (leb (width_of all node) 8) (not-false _ (fits j h))).1 in
+    (fits j h, same, omega (arith, same, width_at_lem nodes early j h, small))
 
 -- what a node that does not fail says of the widths of those that it names
 module _ (nodes : List Node) (early : Earlier nodes) (ws : List ℕ) (wide : Measured nodes (length nodes) ws) (k : ℕ) (within : k < length nodes) where

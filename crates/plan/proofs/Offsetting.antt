@@ -67,7 +67,7 @@ pair_room Difference o left right e h = let s = eqb-true left right e in (h, ome
 -- from k on, each node has passed its offset on
 abbrev pub Inv : List Node → List ℕ → ℕ → List ℕ → Type 0
 Inv nodes ws k os =
-    ((j : ℕ) → k ≤ j → j < length nodes → Passes ws os (get_or os j 0) (get_or nodes j blank)) × Roomy (length nodes) ws os × (get_or os (length nodes - 1) 0 ≡ 0) × (length os ≡ 16)
+    ((j : ℕ) → k ≤ j → j < length nodes → Passes ws os (get_or os j 0) (get_or nodes j blank)) × Roomy (length nodes) ws os × (get_or os (length nodes - 1) 0 ≡ 0) × (length os ≡ length nodes)
 
 module _ (nodes : List Node) (early : Earlier nodes) (once : (c : ℕ) → c < length nodes - 1 → stray_at nodes c ≡ false) (ws : List ℕ) (wide : Measured nodes (length nodes) ws) where
   one_time : (c : ℕ) → c < length nodes - 1 → sum_by (namings c) nodes ≡ 1
@@ -75,7 +75,7 @@ module _ (nodes : List Node) (early : Earlier nodes) (once : (c : ℕ) → c < l
 
   -- the node at k passes its offset on, and leaves what others have passed on
   stepped : (k : ℕ) → k < length nodes → (os ps : List ℕ) → ((c : ℕ) → namings c (get_or nodes k blank) ≡ 0 → get_or ps c 0 ≡ get_or os c 0) →
-      Passes ws ps (get_or os k 0) (get_or nodes k blank) → Roomy (length nodes) ws ps → length ps ≡ 16 → Inv nodes ws (k + 1) os → Inv nodes ws k ps
+      Passes ws ps (get_or os k 0) (get_or nodes k blank) → Roomy (length nodes) ws ps → length ps ≡ length nodes → Inv nodes ws (k + 1) os → Inv nodes ws k ps
   stepped k h os ps agree here room long (done, _, zero-last, _) = (all, room, agree (length nodes - 1) (off (length nodes - 1) (omega arith)) ∙ zero-last, long)
     where
       off : (c : ℕ) → k ≤ c → namings c (get_or nodes k blank) ≡ 0
@@ -107,7 +107,7 @@ module _ (nodes : List Node) (early : Earlier nodes) (once : (c : ℕ) → c < l
     | inr n ↦ let x = (set_at os m v j h).1 n in let y = room j i in omega arith
   ]
 
-  module _ (few : length nodes ≤ 16) (k : ℕ) (within : k < length nodes) (os : List ℕ) (inv : Inv nodes ws (k + 1) os) where
+  module _ (k : ℕ) (within : k < length nodes) (os : List ℕ) (inv : Inv nodes ws (k + 1) os) where
     pub choice_step : (m : ℕ) (left : Side) (sign : Sign) (right : Side) → get_or nodes k blank ≡ Choice m left sign right → Inv nodes ws k (set os m (get_or os k 0))
     choice_step m left sign right e =
         let o : ℕ = get_or os k 0 in

@@ -5,27 +5,29 @@ ghost use Rattle.plan.specs.Gathering.{Gathered};
 
 use crate::leaf::PlanLeaf;
 use crate::node::{Field, Node};
+use crate::tree::Tree;
 use ordered::Few;
 
-// The leaves in order, or the first node that is a leaf and fails.
-pub fn gather(nodes: &[Node]) -> Result<Few<PlanLeaf, 6>, usize>
-    requires { length nodes.now ≤ 16 }
-    ensures { MatchResult result (Gathered nodes.now) (λ k. Spots (poor_at nodes.now) (length nodes.now) (Some k)) }
-{
-    let mut leaves = Few::new(PlanLeaf::new(0, 0, 0, [Field::Open; 4]));
-    for (k, node) in nodes.iter().enumerate() {
-        if let Node::Leaf {
-            relation,
-            arity,
-            fields,
-        } = *node
-        {
-            let leaf = PlanLeaf::new(k, relation, arity, fields);
-            if leaves.len() >= 6 || arity == 0 || arity > 4 || leaf.width() == 0 {
-                return Err(k);
+impl Tree<'_> {
+    // The leaves in order, or the first node that is a leaf and fails.
+    pub fn leaves(&self) -> Result<Few<PlanLeaf, 6>, usize>
+        ensures { MatchResult result (Gathered self.now.nodes.now) (λ k. Spots (poor_at self.now.nodes.now) (length self.now.nodes.now) (Some k)) }
+    {
+        let mut leaves = Few::new(PlanLeaf::new(0, 0, 0, [Field::Open; 4]));
+        for (k, node) in self.nodes.iter().enumerate() {
+            if let Node::Leaf {
+                relation,
+                arity,
+                fields,
+            } = *node
+            {
+                let leaf = PlanLeaf::new(k, relation, arity, fields);
+                if leaves.len() >= 6 || arity == 0 || arity > 4 || leaf.width() == 0 {
+                    return Err(k);
+                }
+                leaves.push(leaf);
             }
-            leaves.push(leaf);
         }
+        Ok(leaves)
     }
-    Ok(leaves)
 }

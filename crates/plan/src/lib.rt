@@ -12,12 +12,14 @@ mod leaf;
 mod leaves;
 mod line;
 mod node;
+mod nodes;
 mod offsets;
 mod order;
 mod plan;
 mod refusal;
 mod seek;
 mod step;
+mod tree;
 mod widths;
 
 pub use laws::{by_names, first_fault};

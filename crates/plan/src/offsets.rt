@@ -1,9 +1,14 @@
 // Where in a plan's line the line of each node begins.
-ghost use Rattle.std.specs.Prelude.{◌≡◌, ℕ, ◌+◌, ◌-◌, ◌<◌, ◌≤◌, false, length};
-ghost use Rattle.plan.specs.Filling.{Earlier, stray_at};
-ghost use Rattle.plan.specs.Parts.{Measured, right_start, Offsets, Roomy};
+ghost use Rattle.std.specs.Prelude.{◌≡◌, ◌+◌, ◌≤◌, length, Some, MatchResult};
+ghost use Rattle.ordered.specs.Lists.{items_in};
+ghost use Rattle.plan.specs.Filling.{unfit_at, Spots};
+ghost use Rattle.plan.specs.Parts.{right_start};
+ghost use Rattle.plan.specs.Steps.{Laid};
 
 use crate::node::{Node, Op};
+use crate::step::{Step, begin_at};
+use crate::tree::Tree;
+use ordered::Few;
 
 // Where the right line of a pair begins, if the pair's begins at `start` and the left one is this wide.
 fn right_start(op: Op, start: u8, left: u8) -> u8
@@ -16,28 +21,25 @@ fn right_start(op: Op, start: u8, left: u8) -> u8
     }
 }
 
-// The offsets of the nodes, from the last one down: each node but the last is named by one later node.
-// Tried with `nodes.iter().enumerate().rev()`: the invariant has no index there, and the proof did not close.
-pub fn offsets_of(nodes: &[Node], widths: &[u8; 16]) -> [u8; 16]
-    requires few { length nodes.now ≤ 16 }
-    requires early { Earlier nodes.now }
-    requires once { (c : ℕ) → c < length nodes.now - 1 → stray_at nodes.now c ≡ false }
-    requires wide { Measured nodes.now (length nodes.now) widths.now }
-    ensures starts { Offsets nodes.now widths.now result }
-    ensures room { Roomy (length nodes.now) widths.now result }
-    ensures long { length result ≡ 16 }
-{
-    let mut offsets = [0; 16];
-    for k in (0..nodes.len()).rev() {
-        let start = offsets[k];
-        match nodes[k] {
-            Node::Leaf { .. } => {}
-            Node::Choice { node, .. } => offsets[node as usize] = start,
-            Node::Pair { op, left, right } => {
-                offsets[left as usize] = start;
-                offsets[right as usize] = right_start(op, start, widths[left as usize]);
+impl Tree<'_> {
+    // Each node with its width and with where its line begins, or the first that does not fit. From the last node down each
+    // tells those that it names, and each node but the last is named by one later node.
+    pub fn steps(&self) -> Result<Few<Step, 16>, usize>
+        ensures { MatchResult result (λ steps. Laid self.now.nodes.now (items_in steps)) (λ k. Spots (unfit_at self.now.nodes.now) (length self.now.nodes.now) (Some k)) }
+    {
+        let mut steps = self.measure()?;
+        for k in (0..self.nodes.len()).rev() {
+            let start = steps.as_slice()[k].start;
+            match self.nodes[k] {
+                Node::Leaf { .. } => {}
+                Node::Choice { node, .. } => begin_at(&mut steps, node as usize, start),
+                Node::Pair { op, left, right } => {
+                    let width = steps.as_slice()[left as usize].width;
+                    begin_at(&mut steps, left as usize, start);
+                    begin_at(&mut steps, right as usize, right_start(op, start, width));
+                }
             }
         }
+        Ok(steps)
     }
-    offsets
 }

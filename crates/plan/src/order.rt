@@ -1,9 +1,12 @@
 // Whether the nodes name one another as they should.
-ghost use Rattle.std.specs.Prelude.{◌≡◌, ◌-◌, ◌<◌, ◌≤◌, length, sum_by, Some, None, MatchResult};
-ghost use Rattle.plan.specs.Filling.{late_at, stray_at, Spots};
+ghost use Rattle.std.specs.Prelude.{◌≡◌, ◌-◌, ◌≤◌, length, sum_by, Some, None, MatchResult};
+ghost use Rattle.plan.specs.Filling.{late_at, stray_at, fill_refusal, Spots};
 ghost use Rattle.plan.specs.Nodes.{late, namings};
 
 use crate::node::Node;
+use crate::nodes::Nodes;
+use crate::refusal::Refusal;
+use crate::tree::Tree;
 
 // Whether the node, which stands at `k`, names one that is not earlier.
 fn names_late(k: usize, node: Node) -> bool
@@ -14,15 +17,6 @@ fn names_late(k: usize, node: Node) -> bool
         Node::Choice { node, .. } => k <= node as usize,
         Node::Pair { left, right, .. } => k <= left as usize || k <= right as usize,
     }
-}
-
-// Whether each node names earlier ones only; if not, the first that does not.
-pub fn check_earlier(nodes: &[Node]) -> Result<(), usize>
-    ensures { MatchResult result (λ _. Spots (late_at nodes.now) (length nodes.now) None) (λ k. Spots (late_at nodes.now) (length nodes.now) (Some k)) }
-{
-    (0..nodes.len())
-        .find(|k| names_late(*k, nodes[*k]))
-        .map_or(Ok(()), Err)
 }
 
 // How often the node names the one at `k`.
@@ -38,21 +32,38 @@ fn namings_in(node: Node, k: usize) -> usize
     }
 }
 
-// How often any node names the one at `k`.
-fn times_named(nodes: &[Node], k: usize) -> usize
-    requires { length nodes.now ≤ 16 }
-    ensures { result ≡ sum_by (namings k) nodes.now }
-{
-    nodes.iter().map(|node| namings_in(*node, k)).sum()
-}
+impl<'a> Nodes<'a> {
+    // Whether each node names earlier ones only; if not, the first that does not.
+    fn check_earlier(&self) -> Result<(), usize>
+        ensures { MatchResult result (λ _. Spots (late_at self.now.nodes.now) (length self.now.nodes.now) None) (λ k. Spots (late_at self.now.nodes.now) (length self.now.nodes.now) (Some k)) }
+    {
+        (0..self.nodes.len())
+            .find(|k| names_late(*k, self.nodes[*k]))
+            .map_or(Ok(()), Err)
+    }
 
-// Whether each node but the last is named exactly once; if not, the first that is not.
-pub fn check_named(nodes: &[Node]) -> Result<(), usize>
-    requires some { 0 < length nodes.now }
-    requires few { length nodes.now ≤ 16 }
-    ensures { MatchResult result (λ _. Spots (stray_at nodes.now) (length nodes.now - 1) None) (λ k. Spots (stray_at nodes.now) (length nodes.now - 1) (Some k)) }
-{
-    (0..nodes.len() - 1)
-        .find(|k| times_named(nodes, *k) != 1)
-        .map_or(Ok(()), Err)
+    // How often any node names the one at `k`.
+    fn times_named(&self, k: usize) -> usize
+        ensures { result ≡ sum_by (namings k) self.now.nodes.now }
+    {
+        self.nodes.iter().map(|node| namings_in(*node, k)).sum()
+    }
+
+    // Whether each node but the last is named exactly once; if not, the first that is not.
+    fn check_named(&self) -> Result<(), usize>
+        ensures { MatchResult result (λ _. Spots (stray_at self.now.nodes.now) (length self.now.nodes.now - 1) None) (λ k. Spots (stray_at self.now.nodes.now) (length self.now.nodes.now - 1) (Some k)) }
+    {
+        (0..self.nodes.len() - 1)
+            .find(|k| self.times_named(*k) != 1)
+            .map_or(Ok(()), Err)
+    }
+
+    // The nodes as a tree, if they name one another so.
+    pub fn tree(&self) -> Result<Tree<'a>, Refusal>
+        ensures { MatchResult result (λ tree. tree.nodes.now ≡ self.now.nodes.now) (λ e. fill_refusal self.now.nodes.now ≡ Some e) }
+    {
+        self.check_earlier().map_err(Refusal::Order)?;
+        self.check_named().map_err(Refusal::Order)?;
+        Ok(Tree { nodes: self.nodes })
+    }
 }

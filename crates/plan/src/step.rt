@@ -1,9 +1,9 @@
 // What a plan keeps of each node.
-ghost use Rattle.std.specs.Prelude.{◌≡◌, ◌≤◌, length, take};
+ghost use Rattle.std.specs.Prelude.{◌≡◌, ◌<◌, length, slice_set};
 ghost use Rattle.ordered.specs.Lists.{items_in};
 ghost use Rattle.plan.specs.Steps.{nodes_in, widths_in, starts_in};
 
-use crate::node::{Field, Node};
+use crate::node::Node;
 use ordered::Few;
 
 // A node, how wide its line is, and where in the plan's line it begins.
@@ -14,31 +14,13 @@ pub struct Step {
     pub start: u8,
 }
 
-// An open leaf of relation 0, arity 1, as the only node of a plan.
-pub const ONLY: Step = Step {
-    node: Node::Leaf {
-        relation: 0,
-        arity: 1,
-        fields: [Field::Open; 4],
-    },
-    width: 1,
-    start: 0,
-};
-
-// Each node with its width and its start.
-pub fn steps_of(nodes: &[Node], widths: &[u8; 16], starts: &[u8; 16]) -> Few<Step, 16>
-    requires { length nodes.now ≤ 16 }
-    ensures nodes { nodes_in (items_in result) ≡ nodes.now }
-    ensures widths { widths_in (items_in result) ≡ take (length nodes.now) widths.now }
-    ensures starts { starts_in (items_in result) ≡ take (length nodes.now) starts.now }
+// Tells the step at `k` where its line begins.
+pub fn begin_at(steps: &mut Few<Step, 16>, k: usize, start: u8)
+    requires { k < length (items_in steps.old) }
+    ensures nodes { nodes_in (items_in steps.new) ≡ nodes_in (items_in steps.old) }
+    ensures widths { widths_in (items_in steps.new) ≡ widths_in (items_in steps.old) }
+    ensures starts { starts_in (items_in steps.new) ≡ slice_set (starts_in (items_in steps.old)) k start }
 {
-    let mut steps = Few::new(ONLY);
-    for (k, node) in nodes.iter().enumerate() {
-        steps.push(Step {
-            node: *node,
-            width: widths[k],
-            start: starts[k],
-        });
-    }
-    steps
+    let step = steps.as_slice()[k];
+    steps.set(k, Step { start, ..step });
 }

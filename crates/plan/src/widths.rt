@@ -1,12 +1,17 @@
 // How wide the nodes are, and whether they fit one another.
-ghost use Rattle.std.specs.Prelude.{◌≡◌, ℕ, ◌<◌, ◌≤◌, false, length, Some, MatchResult, slice_index};
+ghost use Rattle.std.specs.Prelude.{◌≡◌, ◌≤◌, false, length, Some, MatchResult};
+ghost use Rattle.std.specs.List.{All};
+ghost use Rattle.ordered.specs.Lists.{items_in};
 ghost use Rattle.plan.specs.Answers.{width_of};
-ghost use Rattle.plan.specs.Filling.{Earlier, inside, sides_fit, unfit_at, Spots};
+ghost use Rattle.plan.specs.Filling.{inside, sides_fit, unfit_at, Spots};
 ghost use Rattle.plan.specs.Nodes.{late};
-ghost use Rattle.plan.specs.Parts.{Measured};
+ghost use Rattle.plan.specs.Steps.{widths_in, Begun};
 
 use crate::leaf::PlanLeaf;
 use crate::node::{Node, Op, Side};
+use crate::step::Step;
+use crate::tree::Tree;
+use ordered::Few;
 
 // Whether a side can be compared in a line of this width.
 fn is_inside(width: u8, side: Side) -> bool
@@ -18,11 +23,10 @@ fn is_inside(width: u8, side: Side) -> bool
     }
 }
 
-// Whether the node fits the widths of those that it names.
-fn sides_fit(node: Node, k: usize, widths: &[u8; 16]) -> bool
-    requires within { k < 16 }
-    requires early { late k node ≡ false }
-    ensures { result ≡ sides_fit widths.now node }
+// Whether the node that comes after these steps fits the widths of those that it names.
+fn sides_fit(node: Node, steps: &[Step]) -> bool
+    requires { late (length steps.now) node ≡ false }
+    ensures { result ≡ sides_fit (widths_in steps.now) node }
 {
     match node {
         Node::Leaf { .. } => true,
@@ -32,50 +36,57 @@ fn sides_fit(node: Node, k: usize, widths: &[u8; 16]) -> bool
             right,
             ..
         } => {
-            let width = widths[node as usize];
+            let width = steps[node as usize].width;
             is_inside(width, left) && is_inside(width, right)
         }
         Node::Pair { op, left, right } => match op {
             Op::Product => true,
-            Op::Union | Op::Difference => widths[left as usize] == widths[right as usize],
+            Op::Union | Op::Difference => steps[left as usize].width == steps[right as usize].width,
         },
     }
 }
 
-// The width of the node, from those of the nodes that it names.
-fn width_of(node: Node, k: usize, widths: &[u8; 16]) -> u8
-    requires within { k < 16 }
-    requires early { late k node ≡ false }
-    requires narrow { (j : ℕ) → slice_index widths.now j ≤ 8 }
-    ensures { result ≡ width_of widths.now node }
+// The width of the node that comes after these steps, from those of the nodes that it names.
+fn width_of(node: Node, steps: &[Step]) -> u8
+    requires early { late (length steps.now) node ≡ false }
+    requires narrow { All (λ step. step.width ≤ 8) steps.now }
+    ensures { result ≡ width_of (widths_in steps.now) node }
 {
     match node {
         Node::Leaf {
             relation,
             arity,
             fields,
-        } => PlanLeaf::new(k, relation, arity, fields).width() as u8,
-        Node::Choice { node, .. } => widths[node as usize],
+        } => PlanLeaf::new(steps.len(), relation, arity, fields).width() as u8,
+        Node::Choice { node, .. } => steps[node as usize].width,
         Node::Pair { op, left, right } => match op {
-            Op::Product => widths[left as usize] + widths[right as usize],
-            Op::Union | Op::Difference => widths[left as usize],
+            Op::Product => steps[left as usize].width + steps[right as usize].width,
+            Op::Union | Op::Difference => steps[left as usize].width,
         },
     }
 }
 
-// The widths of the nodes, or the first node that fails.
-pub fn measure(nodes: &[Node]) -> Result<[u8; 16], usize>
-    requires few { length nodes.now ≤ 16 }
-    requires early { Earlier nodes.now }
-    ensures { MatchResult result (λ widths. Measured nodes.now (length nodes.now) widths × (length widths ≡ 16)) (λ k. Spots (unfit_at nodes.now) (length nodes.now) (Some k)) }
-{
-    let mut widths = [0; 16];
-    for (k, node) in nodes.iter().enumerate() {
-        let width = width_of(*node, k, &widths);
-        if width > 8 || !sides_fit(*node, k, &widths) {
-            return Err(k);
+impl Tree<'_> {
+    // Each node with its width, or the first that fails; where their lines begin is told later.
+    pub fn measure(&self) -> Result<Few<Step, 16>, usize>
+        ensures { MatchResult result (λ steps. Begun self.now.nodes.now (items_in steps)) (λ k. Spots (unfit_at self.now.nodes.now) (length self.now.nodes.now) (Some k)) }
+    {
+        let mut steps = Few::new(Step {
+            node: self.nodes[0],
+            width: 0,
+            start: 0,
+        });
+        for (k, node) in self.nodes.iter().enumerate() {
+            let width = width_of(*node, steps.as_slice());
+            if width > 8 || !sides_fit(*node, steps.as_slice()) {
+                return Err(k);
+            }
+            steps.push(Step {
+                node: *node,
+                width,
+                start: 0,
+            });
         }
-        widths[k] = width;
+        Ok(steps)
     }
-    Ok(widths)
 }

@@ -4,32 +4,18 @@ ghost use Rattle.plan.specs.Filling.{fill_refusal};
 ghost use Rattle.plan.specs.Plans.{nodes_of, first_nodes, FillSays};
 
 use super::Plan;
-use crate::leaf::PlanLeaf;
-use crate::leaves::gather;
 use crate::node::{Field, Node};
-use crate::offsets::offsets_of;
-use crate::order::{check_earlier, check_named};
+use crate::nodes::Nodes;
 use crate::refusal::Refusal;
-use crate::step::{ONLY, steps_of};
-use crate::widths::measure;
-use ordered::Few;
 
 // The plan of these nodes, or why they make none.
 fn plan_of(nodes: &[Node]) -> Result<Plan, Refusal>
     ensures { MatchResult result (λ plan. (fill_refusal nodes.now ≡ None) × (nodes_of plan ≡ nodes.now)) (λ e. fill_refusal nodes.now ≡ Some e) }
 {
-    if nodes.is_empty() || nodes.len() > 16 {
-        return Err(Refusal::Size);
-    }
-    check_earlier(nodes).map_err(Refusal::Order)?;
-    check_named(nodes).map_err(Refusal::Order)?;
-    let leaves = gather(nodes).map_err(Refusal::Leaves)?;
-    let widths = measure(nodes).map_err(Refusal::Widths)?;
-    let starts = offsets_of(nodes, &widths);
-    Ok(Plan {
-        steps: steps_of(nodes, &widths, &starts),
-        leaves,
-    })
+    let tree = Nodes::new(nodes)?.tree()?;
+    let leaves = tree.leaves().map_err(Refusal::Leaves)?;
+    let steps = tree.steps().map_err(Refusal::Widths)?;
+    Ok(Plan { steps, leaves })
 }
 
 impl Plan {
@@ -37,11 +23,12 @@ impl Plan {
     pub fn new() -> Plan
         ensures { nodes_of result ≡ first_nodes }
     {
-        let leaf = PlanLeaf::new(0, 0, 1, [Field::Open; 4]);
-        Plan {
-            steps: Few::of(&[ONLY], ONLY),
-            leaves: Few::of(&[leaf], leaf),
-        }
+        let leaf = Node::Leaf {
+            relation: 0,
+            arity: 1,
+            fields: [Field::Open; 4],
+        };
+        plan_of(&[leaf]).unwrap()
     }
 
     // Makes these nodes the plan; a refusal leaves it as it was.

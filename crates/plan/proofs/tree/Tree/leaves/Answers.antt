@@ -6,12 +6,12 @@ use Rattle.plan.specs.Gathering.{leaves_from}
 use Rattle.plan.specs.Filling.{poor, poor_at}
 use Rattle.plan.specs.declared.node.Node.TheVariants.{Leaf}
 use Rattle.plan.proofs.Firsts.{spots_at, first_none}
-use Rattle.plan.proofs.leaves.gather.Goals as goal
-use Rattle.plan.proofs.leaves.gather.Goals.{then-len-ge6-via-then-len-ge6, then-len-ge6-via-else-len-ge6+then-arity-eq0, then-len-ge6-via-else-len-ge6+else-arity-eq0+then-arity-gt4, then-len-ge6-via-else-len-ge6+else-arity-eq0+else-arity-gt4+then-width-eq0}
+use Rattle.plan.proofs.tree.Tree.leaves.Goals as goal
+use Rattle.plan.proofs.tree.Tree.leaves.Goals.{then-len-ge6-via-then-len-ge6, then-len-ge6-via-else-len-ge6+then-arity-eq0, then-len-ge6-via-else-len-ge6+else-arity-eq0+then-arity-gt4, then-len-ge6-via-else-len-ge6+else-arity-eq0+else-arity-gt4+then-width-eq0}
 
 pub returns-then-len-ge6 : goal.returns-then-len-ge6
 returns-then-len-ge6 c =
-    let nodes = c.args.nodes.now in
+    let nodes = c.args.self.now.nodes.now in
     let l = c.in-Leaf in
     let count = length (items_in c.loop-k.leaves) in
     let fails : poor count (Leaf l.relation l.arity l.fields) ≡ true = elim c.then-len-ge6.branch [
@@ -24,7 +24,7 @@ returns-then-len-ge6 c =
 
 pub returns : goal.returns
 returns c =
-    let nodes = c.args.nodes.now in
+    let nodes = c.args.self.now.nodes.now in
     let k = c.loop-k.k in
     let (none, _, stand) = c.loop-k.invariant in
     record {
