@@ -3,15 +3,15 @@ use std::io;
 
 // Nanoseconds for one call of each kind.
 #[derive(Clone, Copy)]
-pub struct Costs {
-    pub entry: f64,
-    pub strike: f64,
-    pub rule: f64,
+pub(crate) struct Costs {
+    pub(crate) entry: f64,
+    pub(crate) strike: f64,
+    pub(crate) rule: f64,
 }
 
 impl Costs {
     // For each kind the smaller of two.
-    pub fn least(self, other: Costs) -> Costs {
+    pub(crate) fn least(self, other: Costs) -> Costs {
         Costs {
             entry: self.entry.min(other.entry),
             strike: self.strike.min(other.strike),
@@ -20,7 +20,7 @@ impl Costs {
     }
 
     // A line of the table: the costs at a number of rows, and their ratio to those of the size before.
-    pub fn print(self, rt: &HostRuntime, rows: u32, before: Costs) -> io::Result<()> {
+    pub(crate) fn print(self, rt: &HostRuntime, rows: u32, before: Costs) -> io::Result<()> {
         print!(rt; "{rows:>5} rows")?;
         cost(rt, "entry", self.entry, before.entry)?;
         cost(rt, "strike", self.strike, before.strike)?;

@@ -1,9 +1,13 @@
 // What a book is made to hold while it is measured: a rule, and rows that it does not forbid.
-use rules::{Comparison, Side};
+ghost use Rattle.std.specs.Prelude.{◌≡◌, ◌<◌, ◌+◌, ◌*◌, slice_index};
+ghost use Rattle.bench.specs.Loads.{pads};
+
+use rink::{always, one_club, party, row, three_flooded, with_number};
+use rules::Comparison;
 use store::{Row, Sign};
 
 #[derive(Clone, Copy)]
-pub enum Load {
+pub(crate) enum Load {
     // No two clubs have a pad at a slot: 3 3 a0.0=a1.0 a0.1=a1.1 a0.2#a1.2.
     Pairs,
     // No three pads are flooded at a slot: 4 4 4 a0.0<a1.0 a1.0<a2.0 a0.1=a1.1 a1.1=a2.1.
@@ -13,7 +17,7 @@ pub enum Load {
 }
 
 impl Load {
-    pub fn name(self) -> &'static str {
+    pub(crate) fn name(self) -> &'static str {
         match self {
             Load::Pairs => "two atoms, a key",
             Load::Threes => "three atoms, given up early",
@@ -21,21 +25,18 @@ impl Load {
         }
     }
 
-    // Row after row: eight pads with a party at each slot, or two pads flooded at each slot.
-    pub fn row(self, number: u32) -> Row {
+    // Row after row: eight pads with a party at each slot, or two pads flooded at each slot. No two numbers have one row.
+    pub(crate) fn row(self, number: u32) -> Row
+        ensures pad { slice_index result.columns 0 < pads self }
+        ensures number { pads self * slice_index result.columns 1 + slice_index result.columns 0 ≡ number }
+    {
         match self {
-            Load::Pairs => Row {
-                relation: 3,
-                columns: [number % 8, number / 8, 1, 0],
-            },
-            Load::Threes | Load::LateThrees => Row {
-                relation: 4,
-                columns: [number % 2, number / 2, 0, 0],
-            },
+            Load::Pairs => party(number % 8, number / 8, 1),
+            Load::Threes | Load::LateThrees => row(4, number % 2, number / 2),
         }
     }
 
-    pub fn atoms(self) -> &'static [u16] {
+    pub(crate) fn atoms(self) -> &'static [u16] {
         match self {
             Load::Pairs => &[3, 3],
             Load::Threes | Load::LateThrees => &[4, 4, 4],
@@ -43,45 +44,14 @@ impl Load {
     }
 
     // The comparisons of the rule, four, the last of which may be one that always holds.
-    pub fn comparisons(self) -> [Comparison; 4] {
+    pub(crate) fn comparisons(self) -> [Comparison; 4] {
         match self {
-            Load::Pairs => [
-                both(0, Sign::Equal, 1, 0),
-                both(0, Sign::Equal, 1, 1),
-                both(0, Sign::Unequal, 1, 2),
-                with(Side::Constant(1), Sign::Equal, 1),
-            ],
-            Load::Threes => [
-                both(0, Sign::Less, 1, 0),
-                both(1, Sign::Less, 2, 0),
-                both(0, Sign::Equal, 1, 1),
-                both(1, Sign::Equal, 2, 1),
-            ],
-            Load::LateThrees => [with(
-                Side::Column { atom: 2, column: 1 },
-                Sign::Greater,
-                1000000,
-            ); 4],
+            Load::Pairs => {
+                let [pad, slot, club] = one_club();
+                [pad, slot, club, always()]
+            }
+            Load::Threes => three_flooded(),
+            Load::LateThrees => [with_number(2, 1, Sign::Greater, 1000000); 4],
         }
-    }
-}
-
-// The same column of two atoms, compared.
-fn both(left: u8, sign: Sign, right: u8, column: u8) -> Comparison {
-    Comparison {
-        left: Side::Column { atom: left, column },
-        sign,
-        right: Side::Column {
-            atom: right,
-            column,
-        },
-    }
-}
-
-fn with(left: Side, sign: Sign, right: u32) -> Comparison {
-    Comparison {
-        left,
-        sign,
-        right: Side::Constant(right),
     }
 }

@@ -9,7 +9,7 @@ use store::{Row, Source};
 const NANOSECONDS: f64 = 1000000000.0;
 
 // What each call of a round costs; the source comes empty, with relations 3 and 4.
-pub fn round<S: Source + Drop>(
+pub(crate) fn round<S: Source + Drop>(
     rt: &HostRuntime,
     source: S,
     load: Load,

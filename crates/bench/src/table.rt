@@ -5,12 +5,10 @@ use crate::round::round;
 use crate::trouble::Trouble;
 use store::Table;
 
-const ARITIES: [u8; 5] = [2, 2, 2, 3, 2];
-
 const ROUNDS: u32 = 200;
 
 // Measures a load at 16, 32 and 64 rows, a line for each.
-pub fn sizes(rt: &HostRuntime, load: Load) -> Result<(), Trouble> {
+pub(crate) fn sizes(rt: &HostRuntime, load: Load) -> Result<(), Trouble> {
     let name = load.name();
     println!(rt; "table of 64 places, {name}")?;
     let mut before = least(rt, load, 16)?;
@@ -25,9 +23,9 @@ pub fn sizes(rt: &HostRuntime, load: Load) -> Result<(), Trouble> {
 
 // The least costs of many rounds.
 fn least(rt: &HostRuntime, load: Load, rows: u32) -> Result<Costs, Trouble> {
-    let mut least = round(rt, Table::new(&ARITIES), load, rows)?;
+    let mut least = round(rt, Table::new(&rink::ARITIES), load, rows)?;
     for _ in 0..ROUNDS {
-        least = least.least(round(rt, Table::new(&ARITIES), load, rows)?);
+        least = least.least(round(rt, Table::new(&rink::ARITIES), load, rows)?);
     }
     Ok(least)
 }

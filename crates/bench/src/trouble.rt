@@ -6,7 +6,7 @@ use book::Refusal;
 use std::io;
 
 #[derive(Debug, Drop)]
-pub enum Trouble {
+pub(crate) enum Trouble {
     Outside(io::Error),
     // A row or a rule was refused, so the figures would say nothing.
     Refused(Refusal),

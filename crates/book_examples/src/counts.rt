@@ -1,12 +1,12 @@
 // How many conflicts there are, and the most that there may be.
-use crate::desk::open_desk;
+use crate::desk::{enter_parties, open_desk};
 use crate::telling;
-use crate::written::{enter_parties, one_club, party};
+use rink::{one_club, party};
 use std::io;
 use store::Source;
 
 // Each two parties are a conflict: 45 make 990, and 46 would make 1,035, more than 1,024.
-pub fn many_conflicts(rt: &HostRuntime) -> io::Result<()> {
+pub(crate) fn many_conflicts(rt: &HostRuntime) -> io::Result<()> {
     let mut desk = open_desk();
     let ruled = desk.rule(&[3, 3], &one_club());
     telling::call(rt, "one club to a pad and slot", ruled)?;

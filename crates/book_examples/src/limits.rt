@@ -1,11 +1,11 @@
 // The most rows, rules and conflicts.
-use crate::desk::{Desk, open_desk};
+use crate::desk::{Desk, enter_parties, open_desk};
 use crate::telling;
-use crate::written::{always, enter_parties, one_club, party, row};
 use book::Refusal;
+use rink::{always, one_club, party, row};
 use std::io;
 
-pub fn full_table(rt: &HostRuntime) -> io::Result<()> {
+pub(crate) fn full_table(rt: &HostRuntime) -> io::Result<()> {
     let mut desk = open_desk();
     let entered = enter_parties(&mut desk, 64);
     telling::call(rt, "64 rows", entered)?;
@@ -14,7 +14,7 @@ pub fn full_table(rt: &HostRuntime) -> io::Result<()> {
 }
 
 // 46 parties are 1,035 pairs, so the rule is refused, and the rules and the conflicts stay.
-pub fn conflicts_of_a_rule(rt: &HostRuntime) -> io::Result<()> {
+pub(crate) fn conflicts_of_a_rule(rt: &HostRuntime) -> io::Result<()> {
     let mut desk = open_desk();
     let entered = enter_parties(&mut desk, 46);
     telling::call(rt, "46 parties, no rule", entered)?;
@@ -34,7 +34,7 @@ fn counts(rt: &HostRuntime, shown: &str, desk: &Desk) -> io::Result<()> {
     println!(rt; "{shown}: rules {rules}, conflicts {conflicts}")
 }
 
-pub fn sixteen_rules(rt: &HostRuntime) -> io::Result<()> {
+pub(crate) fn sixteen_rules(rt: &HostRuntime) -> io::Result<()> {
     let mut desk = open_desk();
     let ruled = sixteen(&mut desk);
     telling::call(rt, "sixteen rules", ruled)?;

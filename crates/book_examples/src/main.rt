@@ -10,7 +10,6 @@ mod plains;
 mod refusals;
 mod shapes;
 mod telling;
-mod written;
 
 fn main(rt: HostRuntime) -> io::Result<()> {
     counts::many_conflicts(&rt)?;

@@ -1,12 +1,18 @@
 // Plain answers: what holds over all rows held, whether they contradict each other or not.
+ghost use Rattle.std.specs.Prelude.{◌≡◌, None, replicate};
+ghost use Rattle.plan.specs.Filling.{fill_refusal};
+ghost use Rattle.plan.specs.Plans.{nodes_of};
+
 use crate::desk::open_desk;
 use crate::telling;
-use crate::written::row;
 use plan::{Field, Line, Node, Op, Plan};
+use rink::row;
 use std::io;
 
 // Every row of a relation, as lines of this many columns.
-fn open(relation: u16, arity: u8) -> Node {
+fn open(relation: u16, arity: u8) -> Node
+    ensures { result ≡ Node.Leaf relation arity (replicate 4 Field.Open) }
+{
     Node::Leaf {
         relation,
         arity,
@@ -14,8 +20,11 @@ fn open(relation: u16, arity: u8) -> Node {
     }
 }
 
-// The plan of these nodes, which are known to make one.
-fn plan_of(nodes: &[Node]) -> Plan {
+// The plan of these nodes, which make one.
+fn plan_of(nodes: &[Node]) -> Plan
+    requires { fill_refusal nodes.now ≡ None }
+    ensures { nodes_of result ≡ nodes.now }
+{
     let mut plan = Plan::new();
     let _ = plan.fill(nodes);
     plan
@@ -39,7 +48,7 @@ fn told(rt: &HostRuntime, shown: &str, answer: Result<bool, book::Refusal>) -> i
     }
 }
 
-pub fn answers(rt: &HostRuntime) -> io::Result<()> {
+pub(crate) fn answers(rt: &HostRuntime) -> io::Result<()> {
     let mut desk = open_desk();
     let there = Line {
         columns: [1, 40, 0, 0, 0, 0, 0, 0],
@@ -71,7 +80,7 @@ pub fn answers(rt: &HostRuntime) -> io::Result<()> {
 }
 
 // The source tells arity 2 for relations 0 and 1, 3 for relation 3, and none for relation 9.
-pub fn wrong_arities(rt: &HostRuntime) -> io::Result<()> {
+pub(crate) fn wrong_arities(rt: &HostRuntime) -> io::Result<()> {
     let desk = open_desk();
     let line = Line { columns: [0; 8] };
     told(rt, "the plan at first", desk.plain(&Plan::new(), &line))?;
@@ -91,7 +100,7 @@ pub fn wrong_arities(rt: &HostRuntime) -> io::Result<()> {
 }
 
 // A line of three columns, and then a number that is not zero.
-pub fn wrong_lines(rt: &HostRuntime) -> io::Result<()> {
+pub(crate) fn wrong_lines(rt: &HostRuntime) -> io::Result<()> {
     let desk = open_desk();
     let plan = plan_of(&[open(3, 3)]);
     for column in 3..8usize {

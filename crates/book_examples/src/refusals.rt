@@ -1,12 +1,12 @@
 // The rules that are refused for what they say, and the conflicts that are not there.
 use crate::desk::open_desk;
 use crate::telling;
-use crate::written::{always, both, row};
+use rink::{always, both, row};
 use rules::Comparison;
 use std::io;
 use store::Sign;
 
-pub fn malformed(rt: &HostRuntime) -> io::Result<()> {
+pub(crate) fn malformed(rt: &HostRuntime) -> io::Result<()> {
     let mut desk = open_desk();
     let none = desk.rule(&[], &[]);
     telling::call(rt, "a rule with no atom", none)?;
@@ -19,7 +19,7 @@ pub fn malformed(rt: &HostRuntime) -> io::Result<()> {
 }
 
 // Relation 9 is not declared.
-pub fn undeclared_atoms(rt: &HostRuntime) -> io::Result<()> {
+pub(crate) fn undeclared_atoms(rt: &HostRuntime) -> io::Result<()> {
     let mut desk = open_desk();
     let first = desk.rule(&[9, 9, 9], &[]);
     telling::call(rt, "a rule with the atoms 9 9 9", first)?;
@@ -30,13 +30,13 @@ pub fn undeclared_atoms(rt: &HostRuntime) -> io::Result<()> {
 }
 
 // Two atoms, and a comparison that names a third.
-pub fn no_such_atom(rt: &HostRuntime) -> io::Result<()> {
+pub(crate) fn no_such_atom(rt: &HostRuntime) -> io::Result<()> {
     let third = both(0, Sign::Less, 2, 0);
     each_of_six(rt, "a0.0<a2.0 with two atoms", &[3, 3], third)
 }
 
 // Relation 4 has two columns, and a comparison names a third.
-pub fn no_such_column(rt: &HostRuntime) -> io::Result<()> {
+pub(crate) fn no_such_column(rt: &HostRuntime) -> io::Result<()> {
     let third = both(0, Sign::Equal, 1, 2);
     each_of_six(rt, "a0.2=a1.2 with the atoms 3 4", &[3, 4], third)
 }
@@ -57,7 +57,7 @@ fn each_of_six(
     Ok(())
 }
 
-pub fn no_such_conflict(rt: &HostRuntime) -> io::Result<()> {
+pub(crate) fn no_such_conflict(rt: &HostRuntime) -> io::Result<()> {
     let mut desk = open_desk();
     let ruled = desk.rule(&[2], &[]);
     telling::call(rt, "no row of relation 2", ruled)?;

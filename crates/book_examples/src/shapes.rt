@@ -1,22 +1,14 @@
 // Rules with three atoms and with one, and two rules that forbid the same rows.
 use crate::desk::open_desk;
 use crate::telling;
-use crate::written::{both, column, compare, one_club, party, row};
-use rules::Side;
+use rink::{both, one_club, party, row, three_flooded, with_number};
 use std::io;
 use store::Sign;
 
-// No three pads are flooded at one slot; ascending pads have each three told once. The rows stand in the
-// order in which they came, and not in the order of the atoms.
-pub fn three_atoms(rt: &HostRuntime) -> io::Result<()> {
+// No three pads are flooded at one slot. The rows stand in the order in which they came, and not in the order of the atoms.
+pub(crate) fn three_atoms(rt: &HostRuntime) -> io::Result<()> {
     let mut desk = open_desk();
-    let ascending = [
-        both(0, Sign::Less, 1, 0),
-        both(1, Sign::Less, 2, 0),
-        both(0, Sign::Equal, 1, 1),
-        both(1, Sign::Equal, 2, 1),
-    ];
-    let ruled = desk.rule(&[4, 4, 4], &ascending);
+    let ruled = desk.rule(&[4, 4, 4], &three_flooded());
     telling::call(rt, "not three pads flooded at one slot", ruled)?;
     let second = desk.entry(&row(4, 2, 9));
     telling::call(rt, "pad 2 is flooded", second)?;
@@ -29,9 +21,9 @@ pub fn three_atoms(rt: &HostRuntime) -> io::Result<()> {
     telling::conflict(rt, "three rows, in order of place", &desk, 0)
 }
 
-pub fn one_atom(rt: &HostRuntime) -> io::Result<()> {
+pub(crate) fn one_atom(rt: &HostRuntime) -> io::Result<()> {
     let mut desk = open_desk();
-    let past_five = [compare(column(0, 0), Sign::Greater, Side::Constant(5))];
+    let past_five = [with_number(0, 0, Sign::Greater, 5)];
     let ruled = desk.rule(&[1], &past_five);
     telling::call(rt, "none held on a pad past 5", ruled)?;
     let fifth = desk.entry(&row(1, 5, 9));
@@ -43,7 +35,7 @@ pub fn one_atom(rt: &HostRuntime) -> io::Result<()> {
 }
 
 // Rule 0 forbids nothing here; rules 1 and 2 forbid the same two parties.
-pub fn two_rules(rt: &HostRuntime) -> io::Result<()> {
+pub(crate) fn two_rules(rt: &HostRuntime) -> io::Result<()> {
     let mut desk = open_desk();
     let apart = desk.rule(&[0, 1], &[both(0, Sign::Equal, 1, 0)]);
     telling::call(rt, "rule 0, of other relations", apart)?;

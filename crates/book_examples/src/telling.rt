@@ -5,14 +5,18 @@ use fault::Notice;
 use std::io;
 
 // Says how a call went: taken, or refused with its number, layer and position.
-pub fn call<T: Drop>(rt: &HostRuntime, shown: &str, outcome: Result<T, Refusal>) -> io::Result<()> {
+pub(crate) fn call<T: Drop>(
+    rt: &HostRuntime,
+    shown: &str,
+    outcome: Result<T, Refusal>,
+) -> io::Result<()> {
     match outcome {
         Ok(_) => println!(rt; "{shown}: taken"),
         Err(refusal) => refused(rt, shown, refusal),
     }
 }
 
-pub fn refused(rt: &HostRuntime, shown: &str, refusal: Refusal) -> io::Result<()> {
+pub(crate) fn refused(rt: &HostRuntime, shown: &str, refusal: Refusal) -> io::Result<()> {
     let notice = Notice::from(refusal);
     let number = notice.number;
     let layer = notice.layer;
@@ -20,13 +24,18 @@ pub fn refused(rt: &HostRuntime, shown: &str, refusal: Refusal) -> io::Result<()
     println!(rt; "{shown}: refused {number} {layer} {position}")
 }
 
-pub fn count(rt: &HostRuntime, shown: &str, desk: &Desk) -> io::Result<()> {
+pub(crate) fn count(rt: &HostRuntime, shown: &str, desk: &Desk) -> io::Result<()> {
     let conflicts = desk.conflicts();
     println!(rt; "{shown}: conflicts {conflicts}")
 }
 
 // Says a conflict: its rule, and its rows in order of place.
-pub fn conflict(rt: &HostRuntime, shown: &str, desk: &Desk, number: usize) -> io::Result<()> {
+pub(crate) fn conflict(
+    rt: &HostRuntime,
+    shown: &str,
+    desk: &Desk,
+    number: usize,
+) -> io::Result<()> {
     match desk.conflict(number) {
         Ok(forbidden) => rule_and_rows(rt, shown, &forbidden),
         Err(refusal) => refused(rt, shown, refusal),

@@ -14,7 +14,7 @@ fn is_among(rows: &[Row], row: &Row) -> bool
 }
 
 // Finds out of each row that the line names whether it is there, and asks the plan.
-pub fn is_answer(plan: &Plan, rows: &[Row], line: &Line) -> bool
+pub(crate) fn is_answer(plan: &Plan, rows: &[Row], line: &Line) -> bool
     ensures { result ≡ is_answer (nodes_of plan.now) rows.now line.now.columns }
 {
     plan.holds(line, &plan.at_leaves(line, |row| is_among(rows, row)))

@@ -46,7 +46,7 @@ fn ask(
 }
 
 // Leaves alone, and each way to compare.
-pub fn leaves_and_choices(rt: &HostRuntime) -> io::Result<()> {
+pub(crate) fn leaves_and_choices(rt: &HostRuntime) -> io::Result<()> {
     let zero = Side::Column(0);
     let one = Side::Column(1);
     ask(
@@ -114,7 +114,7 @@ pub fn leaves_and_choices(rt: &HostRuntime) -> io::Result<()> {
 }
 
 // Pairs, and the leaf that a plan is at first.
-pub fn pairs(rt: &HostRuntime) -> io::Result<()> {
+pub(crate) fn pairs(rt: &HostRuntime) -> io::Result<()> {
     let same_hall = choice(2, Side::Column(0), Sign::Equal, Side::Column(2));
     let join = [open(2, 1), open(1, 2), pair(Op::Product, 0, 1), same_hall];
     ask(
@@ -152,7 +152,7 @@ pub fn pairs(rt: &HostRuntime) -> io::Result<()> {
 }
 
 // The leaves of a plan, and the row that a line names at each.
-pub fn names(rt: &HostRuntime) -> io::Result<()> {
+pub(crate) fn names(rt: &HostRuntime) -> io::Result<()> {
     let mut plan = Plan::new();
     let line = Line {
         columns: [7, 2, 8, 0, 0, 0, 0, 0],

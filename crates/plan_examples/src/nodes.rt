@@ -1,13 +1,19 @@
 // Short words for nodes.
+ghost use Rattle.std.specs.Prelude.{◌≡◌, [], ◌∷◌, replicate};
+
 use plan::{Field, Node, Op, Side};
 use store::Sign;
 
 // A leaf of this arity with every column open.
-pub fn open(relation: u16, arity: u8) -> Node {
+pub(crate) fn open(relation: u16, arity: u8) -> Node
+    ensures { result ≡ Node.Leaf relation arity (replicate 4 Field.Open) }
+{
     leaf(relation, arity, [Field::Open; 4])
 }
 
-pub fn leaf(relation: u16, arity: u8, fields: [Field; 4]) -> Node {
+pub(crate) fn leaf(relation: u16, arity: u8, fields: [Field; 4]) -> Node
+    ensures { result ≡ Node.Leaf relation arity fields }
+{
     Node::Leaf {
         relation,
         arity,
@@ -16,12 +22,14 @@ pub fn leaf(relation: u16, arity: u8, fields: [Field; 4]) -> Node {
 }
 
 // The rows of a relation of arity 2 with this second column.
-pub fn second(relation: u16, column: u32) -> Node {
+pub(crate) fn second(relation: u16, column: u32) -> Node
+    ensures { result ≡ Node.Leaf relation 2 (Field.Open ∷ Field.Fixed column ∷ Field.Open ∷ Field.Open ∷ []) }
+{
     let fields = [Field::Open, Field::Fixed(column), Field::Open, Field::Open];
     leaf(relation, 2, fields)
 }
 
-pub fn choice(node: u8, left: Side, sign: Sign, right: Side) -> Node {
+pub(crate) fn choice(node: u8, left: Side, sign: Sign, right: Side) -> Node {
     Node::Choice {
         node,
         left,
@@ -30,6 +38,8 @@ pub fn choice(node: u8, left: Side, sign: Sign, right: Side) -> Node {
     }
 }
 
-pub fn pair(op: Op, left: u8, right: u8) -> Node {
+pub(crate) fn pair(op: Op, left: u8, right: u8) -> Node
+    ensures { result ≡ Node.Pair op left right }
+{
     Node::Pair { op, left, right }
 }

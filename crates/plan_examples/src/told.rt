@@ -43,7 +43,7 @@ fn seven() -> [Node; 13] {
 }
 
 // Plans that are accepted.
-pub fn accepted(rt: &HostRuntime) -> io::Result<()> {
+pub(crate) fn accepted(rt: &HostRuntime) -> io::Result<()> {
     tell(rt, "open leaf of arity 1", &[open(0, 1)])?;
     tell(rt, "open leaf of arity 2", &[open(0, 2)])?;
     tell(rt, "open leaf of arity 3", &[open(0, 3)])?;
@@ -72,7 +72,7 @@ pub fn accepted(rt: &HostRuntime) -> io::Result<()> {
 }
 
 // Refusals 31 and 32: how many nodes there are, and how they name one another.
-pub fn misnamed(rt: &HostRuntime) -> io::Result<()> {
+pub(crate) fn misnamed(rt: &HostRuntime) -> io::Result<()> {
     let column = Side::Column(0);
     let one = Side::Constant(1);
     let over = choice(1, column, Sign::Equal, one);
@@ -107,7 +107,7 @@ pub fn misnamed(rt: &HostRuntime) -> io::Result<()> {
 }
 
 // Refusal 33: the leaves.
-pub fn poor(rt: &HostRuntime) -> io::Result<()> {
+pub(crate) fn poor(rt: &HostRuntime) -> io::Result<()> {
     let shut = leaf(
         0,
         2,
@@ -139,7 +139,7 @@ pub fn poor(rt: &HostRuntime) -> io::Result<()> {
 }
 
 // Refusal 34: the widths.
-pub fn unfit(rt: &HostRuntime) -> io::Result<()> {
+pub(crate) fn unfit(rt: &HostRuntime) -> io::Result<()> {
     let left = Side::Column(0);
     let right = Side::Column(2);
     let over = choice(0, left, Sign::Less, right);

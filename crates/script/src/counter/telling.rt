@@ -13,9 +13,6 @@ use book::{Book, Call};
 use commands::{Command, parse};
 use store::Table;
 
-// Ice (0), Held (1), Void (2) and Flood (4) have a pad and a slot; Party (3) has a club too.
-const ARITIES: [u8; 5] = [2, 2, 2, 3, 2];
-
 impl Counter {
     // A counter with the rink's relations, no rows and no rules, that was told no line yet.
     pub fn new() -> Counter
@@ -26,7 +23,7 @@ impl Counter {
         ensures law { Life (opening (opened (store_of result))) (store_of result) (rules_in result) }
     {
         Counter {
-            book: Book::open(Table::new(&ARITIES)),
+            book: Book::open(Table::new(&rink::ARITIES)),
             lines: 0,
         }
     }
