@@ -1,3 +1,2 @@
 pub mod Leaves
-pub mod Lines
 pub mod Finds

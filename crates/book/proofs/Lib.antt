@@ -1,8 +1,6 @@
 pub mod Answered
 pub mod Held
 pub mod Lives
-pub mod Opening
-mod Reading
 pub mod Running
 pub mod Tested
 mod Told

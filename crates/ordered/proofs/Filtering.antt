@@ -1,5 +1,5 @@
 -- A filter in place that writes only below what it has kept. Assumes nothing.
-use Rattle.std.proofs.Common.{◌≡◌, ℕ, ◌+◌, ◌<◌, min, Bool, true, false, List, length, get_or, take, drop, set, filter, sym, refl, ap, ◌∙◌, arith}
+use Rattle.std.proofs.Common.{◌≡◌, ℕ, ◌+◌, ◌<◌, min, Bool, true, false, List, length, get_or, take, drop, set, filter, sym, ap, ◌∙◌, arith}
 use Rattle.std.proofs.lemmas.List.Filters.{FiltersInPlace, FiltersInPlace-more_no, FiltersInPlace-more_set}
 use Rattle.std.proofs.lemmas.List.{drop-drop, drop-set-lt, length-take}
 use Rattle.ordered.specs.Promises.{Retains}
@@ -9,9 +9,6 @@ use Rattle.ordered.proofs.Capped.{take_capped}
 pub record Filtered {X : Type 0} (p : X → Bool) (xs ys : List X) (k i : ℕ) : Type 0 where
   pub keeping : FiltersInPlace p xs ys k i
   pub rest : drop k ys ≡ drop k xs
-
-pub filtered_none : {X : Type 0} {p : X → Bool} {xs : List X} → Filtered p xs xs 0 0
-filtered_none = record { keeping = record { front = refl; rest = refl; behind = omega arith; within = omega arith; long = refl }; rest = refl }
 
 module _ {X : Type 0} {p : X → Bool} {xs ys : List X} {k i : ℕ} {x : X} (h : Filtered p xs ys k i) (lt : i < length ys) (is : x ≡ get_or ys i x) where
   pub filtered_out : p x ≡ false → Filtered p xs ys k (i + 1)

@@ -66,9 +66,6 @@ pub record Sorted (seen sorted : List ℕ) : Type 0 where
   pub up : rises nat_cmp sorted ≡ true
   pub same : SameSet seen sorted
 
-pub sorted_none : Sorted [] []
-sorted_none = record { few = omega arith; up = refl; same = λ p. refl }
-
 -- there is room for the places of three rows
 pub sorted_more : {seen sorted after next : List ℕ} (so : Sorted seen sorted) (place : ℕ) → length seen < 3 → next ≡ seen ++ place ∷ [] →
     (r : Result Unit Full) → MatchResult r (λ _. Takes nat_cmp place sorted after) (λ _. Bars nat_cmp place sorted after 3) → Sorted next after

@@ -1,13 +1,9 @@
 -- `retain` keeps what passes.
 use Rattle.std.proofs.Common.{sym, arith}
 use Rattle.std.proofs.lemmas.Fn.{says_at}
-use Rattle.std.proofs.lemmas.List.{length-take}
-use Rattle.ordered.proofs.Filtering.{filtered_none, filtered_in, filtered_out, filtered_all}
+use Rattle.ordered.proofs.Filtering.{filtered_in, filtered_out, filtered_all}
 use Rattle.ordered.proofs.removal.retain.Goals as goal
 use Rattle.ordered.proofs.removal.retain.Goals.{then-keep, else-keep}
-
-pub loop-i-init : goal.loop-i-init
-loop-i-init g c = (omega arith, λ passes is. filtered_none)
 
 pub loop-i-preserved : goal.loop-i-preserved
 loop-i-preserved g c =
@@ -17,8 +13,5 @@ loop-i-preserved g c =
       | else-keep w ↦ rw (w.items-is, w.passed-is) (omega arith, λ passes is. filtered_out (so passes is) (omega arith) c.index-items-i.is (sym (is _ _ (says_at g.F.Fn c.keep.ensures w.if-keep.false))))
     ]
 
-pub returns : goal.returns
-returns g c = record {
-  few = omega (arith, length-take c.args.count c.args.items.now);
-  kept = λ passes is. filtered_all c.args.count (omega arith) (c.loop-i.invariant.1 passes is);
-}
+pub returns-clause-kept : goal.returns-clause-kept
+returns-clause-kept g c = λ passes is. filtered_all c.args.count (omega arith) (c.loop-i.invariant.1 passes is)

@@ -1,5 +1,4 @@
-use Rattle.std.proofs.Common.{◌≡◌, List, Ok, Err, sym, refl, ap, ◌∙◌, subst}
-use Rattle.std.proofs.lemmas.Result.{err_from_is_err_and}
+use Rattle.std.proofs.Common.{◌≡◌, List, Ok, Err, sym, ◌∙◌, subst, rules as search_rules}
 use Rattle.rules.specs.Entries.{listing}
 use Rattle.rules.specs.Listing.{Listed, Lists, is_conflict}
 use Rattle.rules.specs.Rules.{Denial}
@@ -13,22 +12,10 @@ use Rattle.book.proofs.Upheld.{before_put, same_store, undone, many_with}
 use Rattle.book.proofs.Tested.{exact_of, right_of, full_of}
 use Rattle.book.proofs.book.Book.entry.Goals as goal
 
-pub returns-in_err-place : goal.returns-in_err-place
-returns-in_err-place g c =
+pub returns-in_err-place-clause-law : goal.returns-in_err-place-clause-law
+returns-in_err-place-clause-law g c =
     let b = c.args.self.now in
-    let rules = rules_of b.log in
-    let s = g.S.Source.model b.source in
-    let s' = g.S.Source.model c.put.new.self in
-    let row = c.args.row.now in
-    let no_row = c.in_err-place.ensures in
-    let p = err_from_is_err_and c.from_residual.result c.from_residual.ensures.1 in
-    let says : EntrySays s s' rules row c.from_residual.result = subst (EntrySays s s' rules row) (sym (p.1 ∙ ap Err p.2)) no_row.says in
-    record {
-      anchor = no_row.anchor;
-      rules = refl;
-      says = says;
-      law = entry_lives s s' rules row c.from_residual.result says;
-    }
+    entry_lives (g.S.Source.model b.source) (g.S.Source.model c.put.new.self) (rules_of b.log) c.args.row.now c.from_residual.result (search search_rules)
 
 pub add_place-requires : goal.add_place-requires
 add_place-requires g c =
@@ -36,23 +23,15 @@ add_place-requires g c =
     let put = c.in_ok-place.ensures in
     before_put (rules_of b.log) (listing b.log.conflicts) (g.S.Source.model b.source) (g.S.Source.model c.put.new.self) c.args.row.now _ put.says (exact_of (g.S.Source.model b.source) b.log b.right b.full b.once)
 
-pub returns-in-Ok : goal.returns-in-Ok
-returns-in-Ok g c =
+pub returns-in-Ok-clause-law : goal.returns-in-Ok-clause-law
+returns-in-Ok-clause-law g c =
     let b = c.args.self.now in
     let rules = rules_of b.log in
-    let log = c.add_place.new.self in
     let s = g.S.Source.model b.source in
     let s' = g.S.Source.model c.put.new.self in
     let row = c.args.row.now in
-    let put = c.in_ok-place.ensures in
     let added = c.in-Ok.ensures in
-    let says : EntrySays s s' rules row (Ok c.in_ok-place.place) = (put.says, added.says.1) in
-    record {
-      anchor = put.anchor;
-      rules = added.rules;
-      says = says;
-      law = subst (λ (rs : List Denial). LivesOn s rules s' rs (entering row) taken) (sym added.rules) (entry_lives s s' rules row (Ok c.in_ok-place.place) says);
-    }
+    subst (λ (rs : List Denial). LivesOn s rules s' rs (entering row) taken) (sym added.rules) (entry_lives s s' rules row (Ok c.in_ok-place.place) (c.in_ok-place.ensures.says, added.says.1))
 
 pub returns-in-Err : goal.returns-in-Err
 returns-in-Err g c =

@@ -18,16 +18,6 @@ use Rattle.book.proofs.book.Book.rule.Given as given
 room : (g : given.Over) (c : Else-number-ge-MOST_RULES g) → ltb (length (rules_of c.args.self.now.log)) 16 ≡ true
 room g c = lt-ltb _ 16 (omega (arith, how_many c.args.self.now.log))
 
-pub returns-in_err-rule : goal.returns-in_err-rule
-returns-in_err-rule g c =
-    let b = c.args.self.now in
-    let rules = rules_of b.log in
-    let s = g.S.Source.model b.source in
-    let rule : Denial = record { atoms = c.args.atoms.now; comparisons = c.args.comparisons.now } in
-    let p = err_from_is_err_and c.from_residual.result c.from_residual.ensures.1 in
-    let says : RuleSays s rules rules rule c.from_residual.result = subst (RuleSays s rules rules rule) (sym (p.1 ∙ ap Err p.2)) (refl, room g (goal.at.returns-in_err-rule g c).Else-number-ge-MOST_RULES, c.in_err-rule.ensures) in
-    record { source = refl; says = says; law = rule_lives s rules rules rule c.from_residual.result says }
-
 pub returns-in_err-map_err : goal.returns-in_err-map_err
 returns-in_err-map_err g c =
     let b = c.args.self.now in

@@ -1,14 +1,11 @@
-use Rattle.std.proofs.Common.{List, map, take, sym, refl, ◌∙◌, subst, arith}
+use Rattle.std.proofs.Common.{List, map, take, sym, ◌∙◌, subst, arith}
 use Rattle.std.proofs.lemmas.List.{map_more, take_all}
 use Rattle.book.specs.Books.{rules_of}
 use Rattle.book.specs.Outcomes.{asked_by, told_of, RunSays}
 use Rattle.book.specs.Plain.{Asked}
 use Rattle.book.specs.declared.call.Call.{Call}
-use Rattle.book.proofs.Running.{not_yet, one_more}
+use Rattle.book.proofs.Running.{one_more}
 use Rattle.book.proofs.book.Book.run.Goals as goal
-
-pub loop-call-init : goal.loop-call-init
-loop-call-init g c = let b = c.args.self.now in (refl, not_yet (g.R.Recorder.told c.args.recorder.now) (g.S.Source.model b.source) (rules_of b.log))
 
 pub loop-call-preserved : goal.loop-call-preserved
 loop-call-preserved g c =
@@ -27,12 +24,8 @@ loop-call-preserved g c =
           _ (told_of c.step-outcome.result) so.1 step.law c.record.ensures),
     )
 
-pub returns : goal.returns
-returns g c =
-    let so = c.loop-call.invariant in
+pub returns-clause-law : goal.returns-clause-law
+returns-clause-law g c =
     let b = c.args.self.now in
     let whole = take_all c.loop-call.call-index c.args.calls.now (omega arith) in
-    record {
-      anchor = so.0;
-      law = subst (λ (calls : List Call). RunSays (g.R.Recorder.told c.args.recorder.now) (g.R.Recorder.told c.loop-call.recorder) (map asked_by calls) (g.S.Source.model b.source) (rules_of b.log) (g.S.Source.model c.loop-call.self.source) (rules_of c.loop-call.self.log)) whole so.1;
-    }
+    subst (λ (calls : List Call). RunSays (g.R.Recorder.told c.args.recorder.now) (g.R.Recorder.told c.loop-call.recorder) (map asked_by calls) (g.S.Source.model b.source) (rules_of b.log) (g.S.Source.model c.loop-call.self.source) (rules_of c.loop-call.self.log)) whole c.loop-call.invariant.1
