@@ -1,5 +1,5 @@
 -- A leaf's fields one by one.
-use Rattle.std.proofs.Common.{◌≡◌, ℕ, zero, suc, ◌+◌, Bool, true, false, cond, List, [], ◌∷◌, length, get_or, drop, refl, sym, ap, ◌∙◌, ap₂, arith, drop-cons}
+use Rattle.std.proofs.Common.{◌≡◌, ℕ, zero, suc, ◌+◌, Bool, true, false, cond, List, [], ◌∷◌, length, drop, refl, sym, ap, ◌∙◌, ap₂, arith, drop-cons}
 use denote.Param.Members.{Mut, Called}
 use Rattle.std.specs.Array.{MapsFrom, IsMapOf}
 use Rattle.std.proofs.lemmas.List.{drop_all}

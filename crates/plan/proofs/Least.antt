@@ -9,7 +9,7 @@ use Rattle.std.proofs.lemmas.Bool.{both_ways}
 use Rattle.store.specs.declared.row.Row.{Row}
 use Rattle.store.proofs.Tests.{from_not}
 use Rattle.plan.specs.Leaves.{matches, opened, leaf_lines}
-use Rattle.plan.specs.Seeking.{reaches, Padded, Single, Least, lesser}
+use Rattle.plan.specs.Seeking.{reaches, Single, Least, lesser}
 use Rattle.plan.specs.Streams.{rows_at, before}
 use Rattle.plan.specs.declared.node.Field.{Field}
 use Rattle.std.specs.declared.ops.Bound.{Bound}

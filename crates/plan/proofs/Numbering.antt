@@ -1,6 +1,5 @@
 -- The leaves by their numbers and by their places.
-use Rattle.std.proofs.Common.{◌≡◌, ℕ, zero, suc, ◌+◌, ◌<◌, List, [], ◌∷◌, map, length, get_or, take, Some, None, refl, ap, ◌∙◌, zero-add, arith}
-use Rattle.std.specs.List.{slice_get}
+use Rattle.std.proofs.Common.{◌≡◌, ℕ, zero, suc, ◌+◌, ◌<◌, List, [], ◌∷◌, length, get_or, take, refl, ap, ◌∙◌, zero-add, arith}
 use Rattle.std.proofs.lemmas.List.Sums.{sum_by-cons}
 use Rattle.plan.specs.Filling.{leaves_before}
 use Rattle.plan.specs.Gathering.{leaves_from, leaves_of}
@@ -65,15 +64,3 @@ module _ (nodes : List Node) where
   pub numbered : (j : ℕ) (d : PlanLeaf) → j < length nodes → leaf_count (get_or nodes j blank) ≡ 1 →
       (leaves_before nodes j < length (leaves_of nodes)) × (get_or (leaves_of nodes) (leaves_before nodes j) d ≡ leaf_of j (get_or nodes j blank))
   numbered j d h one = let (l, e) = numbered_from nodes 0 j d h one in (l, e ∙ ap (λ m. leaf_of m (get_or nodes j blank)) (zero-add j))
-
--- an element by its number, after a map
-module _ {A B : Type 0} (f : A → B) where
-  pub nth_map_some : (xs : List A) (i : ℕ) (x : A) → slice_get xs i ≡ Some x → slice_get (map f xs) i ≡ Some (f x)
-  nth_map_some [] i x e = absurd (let z : ◌≡◌ {A = ℕ} 0 1 = cc in omega arith)
-  nth_map_some (y ∷ xs) zero x e = let s : y ≡ x = cc in ap (λ z. Some (f z)) s
-  nth_map_some (y ∷ xs) (suc i) x e = nth_map_some xs i x e
-
-  pub nth_map_none : (xs : List A) (i : ℕ) → slice_get xs i ≡ None → slice_get (map f xs) i ≡ None
-  nth_map_none [] i e = refl
-  nth_map_none (y ∷ xs) zero e = absurd (let z : ◌≡◌ {A = ℕ} 0 1 = cc in omega arith)
-  nth_map_none (y ∷ xs) (suc i) e = nth_map_none xs i e

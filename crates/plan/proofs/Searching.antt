@@ -1,6 +1,6 @@
 -- The search at a node, from the searches at the nodes that it names.
-use Rattle.std.proofs.Common.{◌≡◌, ℕ, ◌+◌, ◌-◌, ◌<◌, ◌≤◌, Bool, true, List, [], ◌++◌, length, get_or, take, drop, Some, None, Option, sym, refl, ap, ◌∙◌, subst, ap₂, arith, take-append-drop, length-take-le, take-take}
-use Rattle.std.proofs.lemmas.List.{drop-take}
+use Rattle.std.proofs.Common.{◌≡◌, ℕ, ◌+◌, ◌-◌, ◌<◌, ◌≤◌, Bool, true, List, [], ◌++◌, length, get_or, take, drop, Some, None, Option, sym, refl, ap, ◌∙◌, subst, arith, length-take-le, take-take}
+use Rattle.std.proofs.Math.Seq.{take-add}
 use Rattle.std.proofs.lemmas.Bool.{eqb-true}
 use Rattle.store.specs.declared.row.Row.{Row}
 use Rattle.store.specs.declared.sign.Sign.{Sign}
@@ -24,9 +24,6 @@ use Rattle.plan.proofs.Having.{Long}
 use Rattle.plan.proofs.Least.{least_append}
 use Rattle.plan.proofs.PlanNodes.{choice_in, pair_in}
 use Rattle.plan.proofs.Products.{with_line, product_none, product_empty, product_here, product_over, product_next}
-
-two_parts : {A : Type 0} (m n : ℕ) (xs : List A) → take (m + n) xs ≡ take m xs ++ take n (drop m xs)
-two_parts m n xs = sym (take-append-drop m (take (m + n) xs)) ∙ ap₂ ◌++◌ (take-take m (m + n) xs (omega arith)) (drop-take m n xs)
 
 module _ (plan : Plan) (rows : List Row) where
   abbrev Cands : ℕ → List (List ℕ)
@@ -87,7 +84,7 @@ module _ (plan : Plan) (rows : List Row) where
       -- the start, in two parts
       lift : (o : Option (List ℕ)) → Least Both (with_line start (take (Wide l) at ++ take (Wide r) (drop (Wide l) at))) (Wide l + Wide r) o → Finds k at start o
       lift o f = moved Both (Wide l + Wide r) (are (Pair Product l r) e) (pair_in plan k h Product l r e).2 o
-          (subst (λ s. Least Both (with_line start s) (Wide l + Wide r) o) (sym (two_parts (Wide l) (Wide r) at)) f)
+          (subst (λ s. Least Both (with_line start s) (Wide l + Wide r) o) (sym (take-add (Wide l) (Wide r) at)) f)
 
       begin : length (take (Wide l) at) ≡ Wide l
       begin = length-take-le (Wide l) at (omega (arith, both_room))

@@ -74,6 +74,7 @@ impl PlanLeaf {
         if row.relation != self.relation {
             return None;
         }
+        // One pass tests the fixed columns and gathers the open ones.
         let mut open = Few::<u32, 4>::new(0);
         for (field, column) in self.fields.iter().zip(&row.columns) {
             match *field {

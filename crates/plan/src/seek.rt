@@ -1,5 +1,6 @@
 // The search for the least line from a start on, where lines are arrays of eight columns of which the first so many count. Nothing
-// calls this module yet: it is the groundwork for listing a plan's lines in order.
+// calls this module yet, nor the lemmas of proofs/Searching.antt and proofs/Nexts.antt, which say how a node's search follows from
+// those of the nodes that it names: they are the groundwork for listing a plan's lines in order.
 ghost use Rattle.std.specs.Prelude.{◌≡◌, ◌-◌, ◌≤◌, [], ◌∷◌, ◌++◌, length, take, drop};
 ghost use Rattle.std.specs.Range.Bound.{bound_map};
 ghost use Rattle.plan.specs.Leaves.{opens, leaf_lines};
@@ -101,6 +102,7 @@ impl Search {
         ensures start { bound_map (take (self.now.width - cut)) result.start ≡ on_right (bound_map (λ at. take (self.now.width - cut) (drop cut at)) self.now.start) past }
         ensures width { result.width ≡ self.now.width - cut }
     {
+        // By `Bound::map` the closure would have to say again what `tail` asks and gives.
         Search {
             start: match self.start {
                 Bound::Included(at) if !past => Bound::Included(tail(&at, cut)),

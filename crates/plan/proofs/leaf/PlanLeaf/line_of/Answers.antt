@@ -1,4 +1,4 @@
-use Rattle.std.proofs.Common.{◌≡◌, eqb, [], ◌++◌, length, sym, ap, ◌∙◌, inl, inr, arith, append-nil, ap₂}
+use Rattle.std.proofs.Common.{◌≡◌, [], ◌++◌, length, sym, ap, ◌∙◌, inl, inr, arith, append-nil, ap₂}
 use Rattle.std.specs.Slice.Iter.{iter_rest}
 use Rattle.std.proofs.lemmas.List.{drop_all}
 use Rattle.ordered.specs.Lists.{items_in}
