@@ -20,6 +20,17 @@ fn open(relation: u16, arity: u8) -> Node
     }
 }
 
+// The pair of the first two nodes.
+fn pair(op: Op) -> Node
+    ensures { result ≡ Node.Pair op 0 1 }
+{
+    Node::Pair {
+        op,
+        left: 0,
+        right: 1,
+    }
+}
+
 // The plan of these nodes, which make one.
 fn plan_of(nodes: &[Node]) -> Plan
     requires { fill_refusal nodes.now ≡ None }
@@ -32,13 +43,7 @@ fn plan_of(nodes: &[Node]) -> Plan
 
 // Relation 0 at this pad and slot, but not relation 1.
 fn ice_not_held() -> Plan {
-    let op = Op::Difference;
-    let pair = Node::Pair {
-        op,
-        left: 0,
-        right: 1,
-    };
-    plan_of(&[open(0, 2), open(1, 2), pair])
+    plan_of(&[open(0, 2), open(1, 2), pair(Op::Difference)])
 }
 
 fn told(rt: &HostRuntime, shown: &str, answer: Result<bool, book::Refusal>) -> io::Result<()> {
@@ -85,13 +90,7 @@ pub(crate) fn wrong_arities(rt: &HostRuntime) -> io::Result<()> {
     let line = Line { columns: [0; 8] };
     told(rt, "the plan at first", desk.plain(&Plan::new(), &line))?;
     told(rt, "relation 9", desk.plain(&plan_of(&[open(9, 2)]), &line))?;
-    let op = Op::Product;
-    let pair = Node::Pair {
-        op,
-        left: 0,
-        right: 1,
-    };
-    let second = plan_of(&[open(0, 2), open(3, 2), pair]);
+    let second = plan_of(&[open(0, 2), open(3, 2), pair(Op::Product)]);
     told(
         rt,
         "relation 3 of arity 2, after relation 0",
