@@ -7,7 +7,7 @@ use store::Sign;
 use words::halves::halves;
 use words::{Separator, number};
 
-// The sign that a byte is. (`TryFrom` would have to stand beside `Sign`, in the store, which knows nothing of scripts.)
+// The sign that a byte is, if it is one. An `Option`: a `TryFrom` would have an error only for its caller's `.ok()?` to drop.
 fn sign_of(byte: u8) -> Option<Sign>
     ensures { result ≡ sign_of byte }
 {

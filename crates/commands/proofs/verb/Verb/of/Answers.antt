@@ -3,13 +3,6 @@ use Rattle.std.proofs.Common.{◌≡◌, get_or, codes, refl, arith}
 use Rattle.std.proofs.lemmas.List.FromFn.{fill_by_all}
 use Rattle.commands.proofs.verb.Verb.of.Goals as goal
 
-pub returns-in-enter : goal.returns-in-enter
-returns-in-enter c =
-    let word = c.args.word.now in
-    let whole = fill_by_all (λ k. get_or word k 0) word 5 0 (omega arith) (λ k h. refl) in
-    let is : word ≡ codes "enter" = cc in
-    rw is refl
-
 pub returns-in-strike : goal.returns-in-strike
 returns-in-strike c =
     let word = c.args.word.now in
