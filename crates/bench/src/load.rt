@@ -1,5 +1,5 @@
 // What a book is made to hold while it is measured: a rule, and rows that it does not forbid.
-use rules::{Comparison, Side};
+use rules::{AtomColumn, Comparison, Side};
 use store::{Row, Sign};
 
 #[derive(Clone, Copy)]
@@ -57,24 +57,22 @@ impl Load {
                 both(0, Sign::Equal, 1, 1),
                 both(1, Sign::Equal, 2, 1),
             ],
-            Load::LateThrees => [with(
-                Side::Column { atom: 2, column: 1 },
-                Sign::Greater,
-                1000000,
-            ); 4],
+            Load::LateThrees => [with(column(2, 1), Sign::Greater, 1000000); 4],
         }
     }
 }
 
+// A column of the row that is chosen for an atom.
+fn column(atom: u8, column: u8) -> Side {
+    Side::Column(AtomColumn { atom, column })
+}
+
 // The same column of two atoms, compared.
-fn both(left: u8, sign: Sign, right: u8, column: u8) -> Comparison {
+fn both(left: u8, sign: Sign, right: u8, of: u8) -> Comparison {
     Comparison {
-        left: Side::Column { atom: left, column },
+        left: column(left, of),
         sign,
-        right: Side::Column {
-            atom: right,
-            column,
-        },
+        right: column(right, of),
     }
 }
 

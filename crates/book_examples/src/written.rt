@@ -1,7 +1,7 @@
 // Rows and rules, written short.
 use crate::desk::Desk;
 use book::Refusal;
-use rules::{Comparison, Side};
+use rules::{AtomColumn, Comparison, Side};
 use store::{Row, Sign};
 
 // A row of a relation with two columns.
@@ -30,7 +30,7 @@ pub fn enter_parties(desk: &mut Desk, clubs: u32) -> Result<(), Refusal> {
 
 // A column of the row that is chosen for an atom.
 pub fn column(atom: u8, column: u8) -> Side {
-    Side::Column { atom, column }
+    Side::Column(AtomColumn { atom, column })
 }
 
 pub fn compare(left: Side, sign: Sign, right: Side) -> Comparison {
