@@ -10,7 +10,7 @@ use Rattle.plan.proofs.Grown.{Agree, pair_early}
 
 passes_kept : (k : ℕ) (ws vs os ps : List ℕ) → Agree 0 k ws vs → Agree 0 k os ps → (o : ℕ) (n : Node) → late k n ≡ false → passes ws os o n ≡ passes vs ps o n
 passes_kept k ws vs os ps same on o (Leaf relation arity fields) f = refl
-passes_kept k ws vs os ps same on o (Choice node left sign right) f = ap (λ x. eqb x o) (on node (leb-false k node f))
+passes_kept k ws vs os ps same on o (Choice node comparison) f = ap (λ x. eqb x o) (on node (leb-false k node f))
 passes_kept k ws vs os ps same on o (Pair op left right) f =
     let (a, b) = pair_early k left right f in
     ap₂ ◌&&◌ (ap (λ x. eqb x o) (on left a)) (ap₂ (λ x w. eqb x (right_start op o w)) (on right b) (same left a))

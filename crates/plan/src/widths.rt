@@ -1,22 +1,12 @@
 // How wide the nodes are, and whether they fit one another.
 ghost use Rattle.std.specs.Prelude.{◌≡◌, ℕ, ◌<◌, ◌≤◌, false, length, Some, MatchResult, slice_index};
 ghost use Rattle.plan.specs.Answers.{width_of};
-ghost use Rattle.plan.specs.Filling.{Earlier, inside, sides_fit, unfit_at, Spots};
+ghost use Rattle.plan.specs.Filling.{Earlier, sides_fit, unfit_at, Spots};
 ghost use Rattle.plan.specs.Nodes.{late};
 ghost use Rattle.plan.specs.Parts.{Measured};
 
 use crate::leaf::{fields_of, open_count};
-use crate::node::{Node, Op, Side};
-
-// Whether a side can be compared in a line of this width.
-fn is_inside(width: u8, side: Side) -> bool
-    ensures { result ≡ inside width side }
-{
-    match side {
-        Side::Column(column) => column < width,
-        Side::Constant(_) => true,
-    }
-}
+use crate::node::{Node, Op};
 
 // Whether the node fits the widths of those that it names.
 fn sides_fit(node: Node, k: usize, widths: &[u8; 16]) -> bool
@@ -26,14 +16,9 @@ fn sides_fit(node: Node, k: usize, widths: &[u8; 16]) -> bool
 {
     match node {
         Node::Leaf { .. } => true,
-        Node::Choice {
-            node,
-            left,
-            right,
-            ..
-        } => {
+        Node::Choice { node, comparison } => {
             let width = widths[node as usize];
-            is_inside(width, left) && is_inside(width, right)
+            comparison.all_columns(|column| column < width)
         }
         Node::Pair { op, left, right } => match op {
             Op::Product => true,

@@ -1,5 +1,5 @@
 // Short words for nodes.
-use plan::{Field, Node, Op, Side};
+use plan::{Comparison, Field, Node, Op, Side};
 use store::Sign;
 
 // A leaf of this arity with every column open.
@@ -24,9 +24,7 @@ pub fn second(relation: u16, column: u32) -> Node {
 pub fn choice(node: u8, left: Side, sign: Sign, right: Side) -> Node {
     Node::Choice {
         node,
-        left,
-        sign,
-        right,
+        comparison: Comparison { left, sign, right },
     }
 }
 

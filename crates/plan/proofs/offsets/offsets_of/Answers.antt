@@ -10,7 +10,7 @@ loop-k-preserved-in-Choice c =
     let os = c.loop-k.offsets in
     let k = c.loop-k.k - 1 in
     let up : c.loop-k.k ≡ k + 1 = omega arith in
-    (omega arith, choice_step nodes c.requires.early c.requires.once ws c.requires.wide c.requires.few k (omega arith) os (subst (λ n. Inv nodes ws n os) up c.loop-k.invariant.1) _ _ _ _ c.in-Choice.is)
+    (omega arith, choice_step nodes c.requires.early c.requires.once ws c.requires.wide c.requires.few k (omega arith) os (subst (λ n. Inv nodes ws n os) up c.loop-k.invariant.1) _ _ c.in-Choice.is)
 
 pub right_start-requires : goal.right_start-requires
 right_start-requires c =
