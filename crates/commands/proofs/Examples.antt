@@ -2,7 +2,7 @@
 use Rattle.std.proofs.Common.{◌≡◌, [], ◌∷◌, Some, codes, Option, refl}
 use Prim.Native.String.{String}
 use Rattle.store.specs.declared.sign.Sign.TheVariants.{Equal, Unequal, Less}
-use Rattle.rules.specs.declared.rule.Side.TheVariants.{Column, Constant}
+use Rattle.store.specs.declared.comparison.Side.TheVariants.{Column, Constant}
 use Rattle.words.specs.Language.{cut, placed, number_of}
 use Rattle.commands.specs.Tasks.{Task, enter, rule, conflicts}
 use Rattle.commands.specs.Lines.{line_command, line_refusal}
@@ -20,7 +20,7 @@ unfolding cut placed number_of
 a_row = refl
 
 -- in a1.2 the atom is 1 and the column 2
-a_rule : says "rule 3 4 a0.1#a1.2 7<a0.0" ≡ Some (rule (record { atoms = 3 ∷ 4 ∷ []; comparisons = record { left = Column 0 1; sign = Unequal; right = Column 1 2 } ∷ record { left = Constant 7; sign = Less; right = Column 0 0 } ∷ [] }))
+a_rule : says "rule 3 4 a0.1#a1.2 7<a0.0" ≡ Some (rule (record { atoms = 3 ∷ 4 ∷ []; comparisons = record { left = Column record { atom = 0; column = 1 }; sign = Unequal; right = Column record { atom = 1; column = 2 } } ∷ record { left = Constant 7; sign = Less; right = Column record { atom = 0; column = 0 } } ∷ [] }))
 unfolding cut placed number_of
 a_rule = refl
 

@@ -1,9 +1,10 @@
 -- How much of a line its words take: not more than there is, and each at least so much.
 use Rattle.std.proofs.Common.{◌≡◌, ℕ, suc, ◌+◌, ◌≤◌, Bool, true, false, cond, List, [], ◌∷◌, length, get_or, drop, Some, None, Option, sym, refl, ap, ◌∙◌, arith}
 use Rattle.std.specs.Option.{option_map, option_flatten, option_zip}
+use Rattle.store.specs.declared.comparison.Side.{Side}
+use Rattle.store.specs.declared.comparison.Comparison.{Comparison}
 use Rattle.store.specs.declared.sign.Sign.{Sign}
-use Rattle.rules.specs.declared.rule.Side.{Side}
-use Rattle.rules.specs.declared.rule.Comparison.{Comparison}
+use Rattle.rules.specs.declared.rule.AtomColumn.{AtomColumn}
 use Rattle.words.specs.Language.{cut, longer, separates, parts_of, pair_of, halves_of, number_of}
 use Rattle.words.specs.declared.separators.Separator.{Separator}
 use Rattle.words.specs.declared.separators.Separator.TheVariants.{Space, Sign as AtSign}
@@ -49,7 +50,7 @@ number_long [] x e = cc
 number_long (b ∷ bs) x e = omega arith
 
 -- so has a side of a comparison
-side_long : (w : List ℕ) (s : Side) → Some s ≡ atom_side w → 1 ≤ length w
+side_long : (w : List ℕ) (s : Side AtomColumn) → Some s ≡ atom_side w → 1 ≤ length w
 unfolding number_of
 side_long [] s e = cc
 side_long (b ∷ bs) s e = omega arith
@@ -60,16 +61,16 @@ both_some (Some x) None c e = cc
 both_some (Some x) (Some y) c e = (ap (option_map (λ p. p.0)) e, ap (option_map (λ p. p.1)) e)
 
 -- a comparison has three bytes
-pub comparison_long : (w : List ℕ) (c : Comparison) → Some c ≡ comparison_of w → 3 ≤ length w
+pub comparison_long : (w : List ℕ) (c : Comparison AtomColumn) → Some c ≡ comparison_of w → 3 ≤ length w
 comparison_long w c = made (compared atom_side w) (λ p. parted p (halves_of AtSign w) refl)
   where
-    parted : (p : Side × (Sign × Side)) (o : Option (List ℕ × List ℕ)) → halves_of AtSign w ≡ o → Some p ≡ option_flatten (option_map (λ h. option_zip (atom_side h.0) (option_zip (sign_of (get_or w (length h.0) 0)) (atom_side h.1))) o) → 3 ≤ length w
+    parted : (p : Side AtomColumn × (Sign × Side AtomColumn)) (o : Option (List ℕ × List ℕ)) → halves_of AtSign w ≡ o → Some p ≡ option_flatten (option_map (λ h. option_zip (atom_side h.0) (option_zip (sign_of (get_or w (length h.0) 0)) (atom_side h.1))) o) → 3 ≤ length w
     parted p None e is = cc
     parted p (Some (a, b)) e is =
         let (left, others) = both_some (atom_side a) _ p is in
         let (sign, right) = both_some _ (atom_side b) p.1 others in
         omega (arith, halves_room AtSign w (sym e), side_long a p.0 left, side_long b p.1.1 right)
 
-    made : (o : Option (Side × (Sign × Side))) → ((p : Side × (Sign × Side)) → Some p ≡ o → 3 ≤ length w) → Some c ≡ option_map (λ p. record { left = p.0; sign = p.1.0; right = p.1.1 }) o → 3 ≤ length w
+    made : (o : Option (Side AtomColumn × (Sign × Side AtomColumn))) → ((p : Side AtomColumn × (Sign × Side AtomColumn)) → Some p ≡ o → 3 ≤ length w) → Some c ≡ option_map (λ p. record { left = p.0; sign = p.1.0; right = p.1.1 }) o → 3 ≤ length w
     made None long is = cc
     made (Some p) long is = long p refl

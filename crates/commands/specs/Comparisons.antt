@@ -1,11 +1,12 @@
 -- Comparisons of a rule as a line writes them, as a0.1#a1.1, a0.0<5 and 7=7.
 use Rattle.std.specs.Prelude.{ℕ, ◌-◌, cond, List, length, Some, None, codes, Option, slice_index}
 use Rattle.std.specs.Option.{option_map, option_flatten, option_zip}
+use Rattle.store.specs.declared.comparison.Side.{Side}
+use Rattle.store.specs.declared.comparison.Side.TheVariants.{Column, Constant}
+use Rattle.store.specs.declared.comparison.Comparison.{Comparison}
 use Rattle.store.specs.declared.sign.Sign.{Sign}
 use Rattle.store.specs.declared.sign.Sign.TheVariants.{Equal, Unequal, Less, Greater}
-use Rattle.rules.specs.declared.rule.Side.{Side}
-use Rattle.rules.specs.declared.rule.Side.TheVariants.{Column, Constant}
-use Rattle.rules.specs.declared.rule.Comparison.{Comparison}
+use Rattle.rules.specs.declared.rule.AtomColumn.{AtomColumn}
 use Rattle.words.specs.Language.{among, halves_of, number_of, is_atom_column}
 use Rattle.words.specs.declared.separators.Separator.TheVariants.{Sign as AtSign}
 
@@ -26,9 +27,9 @@ abbrev pub digit_at : ℕ → List ℕ → ℕ
 digit_at i text = slice_index text i - 48
 
 -- a column of an atom: in a0.1 the first digit is the atom, the second the column; or a constant
-abbrev pub atom_side : List ℕ → Option Side
-atom_side text = cond (is_atom_column text) (Some (Column (digit_at 1 text) (digit_at 3 text))) (option_map Constant (number_of text))
+abbrev pub atom_side : List ℕ → Option (Side AtomColumn)
+atom_side text = cond (is_atom_column text) (Some (Column record { atom = digit_at 1 text; column = digit_at 3 text })) (option_map Constant (number_of text))
 
 -- the comparison that a word is
-abbrev pub comparison_of : List ℕ → Option Comparison
+abbrev pub comparison_of : List ℕ → Option (Comparison AtomColumn)
 comparison_of w = option_map (λ c. record { left = c.0; sign = c.1.0; right = c.1.1 }) (compared atom_side w)

@@ -3,7 +3,8 @@ use Rattle.std.specs.Prelude.{ℕ, cond, List, [], ◌∷◌, None, Option}
 use Rattle.std.specs.Option.{option_map, option_zip}
 use Rattle.ordered.specs.Lists.{items_in}
 use Rattle.rules.specs.Rules.{Denial}
-use Rattle.rules.specs.declared.rule.Comparison.{Comparison}
+use Rattle.store.specs.declared.comparison.Comparison.{Comparison}
+use Rattle.rules.specs.declared.rule.AtomColumn.{AtomColumn}
 use Rattle.words.specs.Language.{number_of, is_number}
 use Rattle.commands.specs.Comparisons.{comparison_of}
 use Rattle.commands.specs.Numbers.{each, relation_of}
@@ -14,7 +15,7 @@ abbrev pub written : RuleText → Denial
 written rule = record { atoms = items_in rule.atoms; comparisons = items_in rule.comparisons }
 
 -- a rule without atoms
-abbrev pub atomless : List Comparison → Denial
+abbrev pub atomless : List (Comparison AtomColumn) → Denial
 atomless comparisons = record { atoms = []; comparisons = comparisons }
 
 -- one more atom in front of a rule
@@ -22,7 +23,7 @@ abbrev pub led : ℕ → Denial → Denial
 led atom rule = record { atoms = atom ∷ rule.atoms; comparisons = rule.comparisons }
 
 -- the number that a word is, if atoms may still come: behind a comparison there is none
-abbrev pub atom_behind : List Comparison → List ℕ → Option ℕ
+abbrev pub atom_behind : List (Comparison AtomColumn) → List ℕ → Option ℕ
 atom_behind [] w = number_of w
 atom_behind (c ∷ cs) w = None
 

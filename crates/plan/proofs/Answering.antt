@@ -29,7 +29,7 @@ use Rattle.plan.proofs.PlanNodes.{part_long, leaf_in, choice_in, pair_in, passes
 
 lines_local : (rows : List Row) → Local [] (lines_of rows)
 lines_local rows xs ys k same (Leaf relation arity fields) f = refl
-lines_local rows xs ys k same (Choice node left sign right) f = ap (filter (chosen left sign right)) (same node (leb-false k node f))
+lines_local rows xs ys k same (Choice node comparison) f = ap (filter (chosen comparison)) (same node (leb-false k node f))
 lines_local rows xs ys k same (Pair op left right) f = let (a, b) = pair_early k left right f in ap₂ (lines_by op) (same left a) (same right b)
 
 pub long_by : (op : Op) (ps qs : List (List ℕ)) (v w : ℕ) → Long v ps → Long w qs → alike op v w ≡ true → Long (width_by op v w) (lines_by op ps qs)
@@ -55,7 +55,7 @@ module _ (plan : Plan) (rows : List Row) where
   -- each line of a node is as long as the node is wide
   long_node : (k : ℕ) → k < length (nodes_of plan) → ((j : ℕ) → j < k → Long (Wide j) (Lines j)) → (n : Node) → get_or (nodes_of plan) k blank ≡ n → Long (Wide k) (lines_of rows (grown (lines_of rows) [] (nodes_of plan)) n)
   long_node k h ih (Leaf relation arity fields) e t m = long_leaf relation (fields_of arity fields) rows t m ∙ sym (leaf_in plan k h relation arity fields e)
-  long_node k h ih (Choice node left sign right) e t m = let (l, same, _) = choice_in plan k h node left sign right e in ih node l t (kept_pick _ (Lines node) m).0 ∙ sym same
+  long_node k h ih (Choice node comparison) e t m = let (l, same, _) = choice_in plan k h node comparison e in ih node l t (kept_pick _ (Lines node) m).0 ∙ sym same
   long_node k h ih (Pair op left right) e t m =
       let (i, j, sum, like) = pair_in plan k h op left right e in
       long_by op (Lines left) (Lines right) (Wide left) (Wide right) (ih left i) (ih right j) like t m ∙ sym sum
@@ -95,11 +95,11 @@ module _ (plan : Plan) (rows : List Row) where
         has (lines_of rows (grown (lines_of rows) [] (nodes_of plan)) n) (Part k) ≡ truth_of (get_or truth (leaves_before (nodes_of plan) k) false) (Part k) Truths n
     claim_node k h ih (Leaf relation arity fields) e =
         has_leaf relation (fields_of arity fields) rows (Part k) (part_long plan k h columns eight ∙ leaf_in plan k h relation arity fields e) ∙ told k h relation arity fields e
-    claim_node k h ih (Choice node left sign right) e =
-        let (l, same, _) = choice_in plan k h node left sign right e in
-        let starts : get_or (starts_of plan) node 0 ≡ get_or (starts_of plan) k 0 = passes_at plan k h (Choice node left sign right) e in
+    claim_node k h ih (Choice node comparison) e =
+        let (l, same, _) = choice_in plan k h node comparison e in
+        let starts : get_or (starts_of plan) node 0 ≡ get_or (starts_of plan) k 0 = passes_at plan k h (Choice node comparison) e in
         let part : Part k ≡ Part node = ap₂ (λ w o. take w (drop o columns)) same (sym starts) in
-        has_kept (chosen left sign right) (Lines node) (Part k) ∙ ap (λ b. b && chosen left sign right (Part k)) (ap (has (Lines node)) part ∙ ih node l)
+        has_kept (chosen comparison) (Lines node) (Part k) ∙ ap (λ b. b && chosen comparison (Part k)) (ap (has (Lines node)) part ∙ ih node l)
     claim_node k h ih (Pair op left right) e =
         let (i, j, sum, like) = pair_in plan k h op left right e in
         let o : ℕ = get_or (starts_of plan) k 0 in

@@ -24,7 +24,7 @@ use Rattle.plan.proofs.PlanNodes.{leaf_in, choice_in, pair_in}
 
 candidates_local : (rows : List Row) → Local [] (candidates_of rows)
 candidates_local rows xs ys k same (Leaf relation arity fields) f = refl
-candidates_local rows xs ys k same (Choice node left sign right) f = ap (filter (chosen left sign right)) (same node (leb-false k node f))
+candidates_local rows xs ys k same (Choice node comparison) f = ap (filter (chosen comparison)) (same node (leb-false k node f))
 candidates_local rows xs ys k same (Pair op left right) f = let (a, b) = pair_early k left right f in ap₂ (candidates_by op) (same left a) (same right b)
 
 long_candidates_by : (op : Op) (ps qs : List (List ℕ)) (v w : ℕ) → Long v ps → Long w qs → alike op v w ≡ true → Long (width_by op v w) (candidates_by op ps qs)
@@ -46,7 +46,7 @@ module _ (plan : Plan) (rows : List Row) where
   -- each candidate of a node is as long as the node is wide
   long_node : (k : ℕ) → k < length (nodes_of plan) → ((j : ℕ) → j < k → Long (Wide j) (Cands j)) → (n : Node) → get_or (nodes_of plan) k blank ≡ n → Long (Wide k) (candidates_of rows (grown (candidates_of rows) [] (nodes_of plan)) n)
   long_node k h ih (Leaf relation arity fields) e t m = long_leaf relation (fields_of arity fields) rows t m ∙ sym (leaf_in plan k h relation arity fields e)
-  long_node k h ih (Choice node left sign right) e t m = let (l, same, _) = choice_in plan k h node left sign right e in ih node l t (kept_pick _ (Cands node) m).0 ∙ sym same
+  long_node k h ih (Choice node comparison) e t m = let (l, same, _) = choice_in plan k h node comparison e in ih node l t (kept_pick _ (Cands node) m).0 ∙ sym same
   long_node k h ih (Pair op left right) e t m =
       let (i, j, sum, like) = pair_in plan k h op left right e in
       long_candidates_by op (Cands left) (Cands right) (Wide left) (Wide right) (ih left i) (ih right j) like t m ∙ sym sum
@@ -76,9 +76,9 @@ module _ (plan : Plan) (R : Row → Bool) (rows : List Row) where
   part_node k h ih (Leaf relation arity fields) e t m =
       let (r, i, good, o) = leaf_pick relation (fields_of arity fields) (filter R rows) t m in
       leaf_put relation (fields_of arity fields) rows r t (kept_pick R rows i).0 good o
-  part_node k h ih (Choice node left sign right) e t m =
-      let (i, good) = kept_pick (chosen left sign right) (Lines node) m in
-      kept_put (chosen left sign right) (ih node (choice_in plan k h node left sign right e).0 t i) good
+  part_node k h ih (Choice node comparison) e t m =
+      let (i, good) = kept_pick (chosen comparison) (Lines node) m in
+      kept_put (chosen comparison) (ih node (choice_in plan k h node comparison e).0 t i) good
   part_node k h ih (Pair op left right) e t m =
       let (i, j, _, _) = pair_in plan k h op left right e in
       part_by op (Lines left) (Lines right) (Cands plan rows left) (Cands plan rows right) (ih left i) (ih right j) t m

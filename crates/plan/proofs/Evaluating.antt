@@ -15,13 +15,13 @@ use Rattle.plan.proofs.Standing.{NoLeaf}
 
 truth_local : (own : Bool) (part : List ℕ) → Local false (truth_of own part)
 truth_local own part xs ys k same (Leaf relation arity fields) f = refl
-truth_local own part xs ys k same (Choice node left sign right) f = ap (λ b. b && chosen left sign right part) (same node (leb-false k node f))
+truth_local own part xs ys k same (Choice node comparison) f = ap (λ b. b && chosen comparison part) (same node (leb-false k node f))
 truth_local own part xs ys k same (Pair op left right) f = let (a, b) = pair_early k left right f in ap₂ (combined op) (same left a) (same right b)
 
 -- what a node that is no leaf has of its own does not matter
 pub own_idle : (own : Bool) (part : List ℕ) (done : List Bool) (n : Node) → NoLeaf n → truth_of false part done n ≡ truth_of own part done n
 own_idle own part done (Leaf relation arity fields) other = absurd (other relation arity fields refl)
-own_idle own part done (Choice node left sign right) other = refl
+own_idle own part done (Choice node comparison) other = refl
 own_idle own part done (Pair op left right) other = refl
 
 module _ (plan : Plan) (columns : List ℕ) (truth : List Bool) (k : ℕ) (within : k < length (nodes_of plan)) where

@@ -12,13 +12,13 @@ use Rattle.plan.proofs.Grown.{Local, value_at, pair_early}
 
 under_local : Local true under
 under_local xs ys k same (Leaf relation arity fields) f = refl
-under_local xs ys k same (Choice node left sign right) f = same node (leb-false k node f)
+under_local xs ys k same (Choice node comparison) f = same node (leb-false k node f)
 under_local xs ys k same (Pair op left right) f = let (a, b) = pair_early k left right f in ap₂ ◌&&◌ (same left a) (same right b)
 
 -- all that a node names passes, if all before it does
 all_under : (done : List Bool) (k : ℕ) → ((j : ℕ) → j < k → get_or done j true ≡ true) → (n : Node) → late k n ≡ false → under done n ≡ true
 all_under done k h (Leaf relation arity fields) f = refl
-all_under done k h (Choice node left sign right) f = h node (leb-false k node f)
+all_under done k h (Choice node comparison) f = h node (leb-false k node f)
 all_under done k h (Pair op left right) f = let (a, b) = pair_early k left right f in and_from (get_or done left true) (get_or done right true) (h left a) (h right b)
 
 module _ (nodes : List Node) (early : Earlier nodes) where

@@ -1,14 +1,13 @@
 -- The widths of nodes, from an array that has those of the nodes before.
 use Rattle.std.proofs.Common.{◌≡◌, ℕ, ◌<◌, ◌≤◌, true, false, not, ◌&&◌, leb, List, [], length, get_or, sym, refl, ap, ◌∙◌, subst, ap₂, arith}
 use Rattle.std.proofs.lemmas.Bool.{leb-false, leb-true, and_parts, not-false}
-use Rattle.store.specs.declared.sign.Sign.{Sign}
 use Rattle.plan.specs.Leaves.{fields_of, opens}
 use Rattle.plan.specs.Nodes.{grown, blank, late}
 use Rattle.plan.specs.Answers.{width_by, width_of, width_at}
 use Rattle.plan.specs.Filling.{Earlier, inside, alike, sides_fit, unfit, unfit_at}
 use Rattle.plan.specs.Parts.{Measured}
 use Rattle.plan.specs.declared.node.Field.{Field}
-use Rattle.plan.specs.declared.node.Side.{Side}
+use Rattle.store.specs.declared.comparison.Comparison.{Comparison}
 use Rattle.plan.specs.declared.node.Op.{Op}
 use Rattle.plan.specs.declared.node.Node.{Node}
 use Rattle.plan.specs.declared.node.Node.TheVariants.{Leaf, Choice, Pair}
@@ -16,12 +15,12 @@ use Rattle.plan.proofs.Grown.{Agree, Local, value_at, pair_early}
 
 width_local : Local 0 width_of
 width_local xs ys k same (Leaf relation arity fields) f = refl
-width_local xs ys k same (Choice node left sign right) f = same node (leb-false k node f)
+width_local xs ys k same (Choice node comparison) f = same node (leb-false k node f)
 width_local xs ys k same (Pair op left right) f = let (a, b) = pair_early k left right f in ap₂ (width_by op) (same left a) (same right b)
 
 fit_local : Local 0 sides_fit
 fit_local xs ys k same (Leaf relation arity fields) f = refl
-fit_local xs ys k same (Choice node left sign right) f = ap (λ w. inside w left && inside w right) (same node (leb-false k node f))
+fit_local xs ys k same (Choice node comparison) f = ap (λ w. inside w comparison) (same node (leb-false k node f))
 fit_local xs ys k same (Pair op left right) f = let (a, b) = pair_early k left right f in ap₂ (alike op) (same left a) (same right b)
 
 unfit_local : Local 0 unfit
@@ -61,12 +60,12 @@ module _ (nodes : List Node) (early : Earlier nodes) (ws : List ℕ) (wide : Mea
   pub leaf_wide : (relation arity : ℕ) (fields : List Field) → get_or nodes k blank ≡ Leaf relation arity fields → get_or ws k 0 ≡ opens (fields_of arity fields)
   leaf_wide relation arity fields e = is_wide (Leaf relation arity fields) e
 
-  pub choice_fits : (m : ℕ) (left : Side) (sign : Sign) (right : Side) → get_or nodes k blank ≡ Choice m left sign right →
-      (m < k) × (get_or ws k 0 ≡ get_or ws m 0) × ((inside (get_or ws m 0) left && inside (get_or ws m 0) right) ≡ true)
-  choice_fits m left sign right e =
-      let l : m < k = leb-false k m (not_late (Choice m left sign right) e) in
+  pub choice_fits : (m : ℕ) (comparison : Comparison ℕ) → get_or nodes k blank ≡ Choice m comparison →
+      (m < k) × (get_or ws k 0 ≡ get_or ws m 0) × (inside (get_or ws m 0) comparison ≡ true)
+  choice_fits m comparison e =
+      let l : m < k = leb-false k m (not_late (Choice m comparison) e) in
       let w : get_or ws m 0 ≡ width_at nodes m = (wide m (omega arith)).1 in
-      (l, is_wide (Choice m left sign right) e ∙ sym w, subst (λ v. (inside v left && inside v right) ≡ true) (sym w) (sides (Choice m left sign right) e))
+      (l, is_wide (Choice m comparison) e ∙ sym w, subst (λ v. inside v comparison ≡ true) (sym w) (sides (Choice m comparison) e))
 
   pub pair_fits : (op : Op) (left right : ℕ) → get_or nodes k blank ≡ Pair op left right →
       (left < k) × (right < k) × (get_or ws k 0 ≡ width_by op (get_or ws left 0) (get_or ws right 0)) × (alike op (get_or ws left 0) (get_or ws right 0) ≡ true)

@@ -12,7 +12,7 @@ use Rattle.plan.specs.declared.node.Node.TheVariants.{Leaf, Choice, Pair}
 -- the leaf that a node at k is
 abbrev pub leaf_of : ℕ → Node → PlanLeaf
 leaf_of k (Leaf relation arity fields) = record { node = k; relation = relation; arity = arity; fields = fields_of arity fields }
-leaf_of k (Choice node left sign right) = record { node = k; relation = 0; arity = 0; fields = [] }
+leaf_of k (Choice node comparison) = record { node = k; relation = 0; arity = 0; fields = [] }
 leaf_of k (Pair op left right) = record { node = k; relation = 0; arity = 0; fields = [] }
 
 -- the leaf with the number i stands at some node, and is that node's leaf
@@ -31,7 +31,7 @@ stands_from [] k i d h = absurd (omega arith)
 stands_from (Leaf relation arity fields ∷ nodes) k zero d h = let e : k ≡ k + 0 = omega arith in
     record { at = 0; within = omega arith; one = refl; is = ap (λ m. leaf_of m (Leaf relation arity fields)) e }
 stands_from (Leaf relation arity fields ∷ nodes) k (suc i) d h = next _ nodes k _ (stands_from nodes (k + 1) i d (omega arith))
-stands_from (Choice node left sign right ∷ nodes) k i d h = next _ nodes k _ (stands_from nodes (k + 1) i d h)
+stands_from (Choice node comparison ∷ nodes) k i d h = next _ nodes k _ (stands_from nodes (k + 1) i d h)
 stands_from (Pair op left right ∷ nodes) k i d h = next _ nodes k _ (stands_from nodes (k + 1) i d h)
 
 -- the leaf at the node j has as its number how many leaves stand before it
@@ -44,11 +44,11 @@ numbered_from (Leaf relation arity fields ∷ nodes) k (suc j) d h one =
     let e : k + 1 + j ≡ k + suc j = omega arith in
     let n : leaves_before (Leaf relation arity fields ∷ nodes) (suc j) ≡ suc (leaves_before nodes j) = omega (arith, sum_by-cons leaf_count (Leaf relation arity fields) (take j nodes)) in
     (omega arith, ap (λ m. get_or (leaves_from k (Leaf relation arity fields ∷ nodes)) m d) n ∙ s ∙ ap (λ m. leaf_of m (get_or nodes j blank)) e)
-numbered_from (Choice node left sign right ∷ nodes) k zero d h one = absurd (omega arith)
-numbered_from (Choice node left sign right ∷ nodes) k (suc j) d h one =
+numbered_from (Choice node comparison ∷ nodes) k zero d h one = absurd (omega arith)
+numbered_from (Choice node comparison ∷ nodes) k (suc j) d h one =
     let (l, s) = numbered_from nodes (k + 1) j d (omega arith) one in
     let e : k + 1 + j ≡ k + suc j = omega arith in
-    let n : leaves_before (Choice node left sign right ∷ nodes) (suc j) ≡ leaves_before nodes j = omega (arith, sum_by-cons leaf_count (Choice node left sign right) (take j nodes)) in
+    let n : leaves_before (Choice node comparison ∷ nodes) (suc j) ≡ leaves_before nodes j = omega (arith, sum_by-cons leaf_count (Choice node comparison) (take j nodes)) in
     (omega arith, ap (λ m. get_or (leaves_from (k + 1) nodes) m d) n ∙ s ∙ ap (λ m. leaf_of m (get_or nodes j blank)) e)
 numbered_from (Pair op left right ∷ nodes) k zero d h one = absurd (omega arith)
 numbered_from (Pair op left right ∷ nodes) k (suc j) d h one =

@@ -6,12 +6,11 @@ use Rattle.plan.specs.Answers.{width_by}
 use Rattle.plan.specs.Filling.{Earlier, alike, stray_at}
 use Rattle.plan.specs.Nodes.{blank, late, namings}
 use Rattle.plan.specs.Parts.{Measured, right_start, passes, Roomy}
-use Rattle.plan.specs.declared.node.Side.{Side}
+use Rattle.store.specs.declared.comparison.Comparison.{Comparison}
 use Rattle.plan.specs.declared.node.Op.{Op}
 use Rattle.plan.specs.declared.node.Op.TheVariants.{Product, Union, Difference}
 use Rattle.plan.specs.declared.node.Node.{Node}
 use Rattle.plan.specs.declared.node.Node.TheVariants.{Leaf, Choice, Pair}
-use Rattle.store.specs.declared.sign.Sign.{Sign}
 use Rattle.plan.proofs.Grown.{pair_early}
 use Rattle.plan.proofs.Measures.{choice_fits, pair_fits}
 
@@ -24,32 +23,32 @@ miss n c e = ap (λ b. cond b 1 0) (ne_eqb n c e)
 -- a node names none from its own place on
 unnamed : (k : ℕ) (n : Node) → late k n ≡ false → (c : ℕ) → k ≤ c → namings c n ≡ 0
 unnamed k (Leaf relation arity fields) f c h = refl
-unnamed k (Choice node left sign right) f c h = miss node c (λ e. let l : node < k = leb-false k node f in omega arith)
+unnamed k (Choice node comparison) f c h = miss node c (λ e. let l : node < k = leb-false k node f in omega arith)
 unnamed k (Pair op left right) f c h = let (i, j) = pair_early k left right f in omega (arith, miss left c (λ e. omega arith), miss right c (λ e. omega arith))
 
 -- the test `passes`, as equations
 abbrev pub Passes : List ℕ → List ℕ → ℕ → Node → Type 0
 Passes ws os o (Leaf relation arity fields) = Unit {0}
-Passes ws os o (Choice node left sign right) = get_or os node 0 ≡ o
+Passes ws os o (Choice node comparison) = get_or os node 0 ≡ o
 Passes ws os o (Pair op left right) = (get_or os left 0 ≡ o) × (get_or os right 0 ≡ right_start op o (get_or ws left 0))
 
 pub passes_to : (ws os : List ℕ) (o : ℕ) (n : Node) → passes ws os o n ≡ true → Passes ws os o n
 passes_to ws os o (Leaf relation arity fields) h = tt
-passes_to ws os o (Choice node left sign right) h = eqb-true (get_or os node 0) o h
+passes_to ws os o (Choice node comparison) h = eqb-true (get_or os node 0) o h
 passes_to ws os o (Pair op left right) h =
     let (a, b) = and_parts (eqb (get_or os left 0) o) (eqb (get_or os right 0) (right_start op o (get_or ws left 0))) h in
     (eqb-true (get_or os left 0) o a, eqb-true (get_or os right 0) (right_start op o (get_or ws left 0)) b)
 
 pub passes_from : (ws os : List ℕ) (o : ℕ) (n : Node) → Passes ws os o n → passes ws os o n ≡ true
 passes_from ws os o (Leaf relation arity fields) h = refl
-passes_from ws os o (Choice node left sign right) h = eq-eqb (get_or os node 0) o h
+passes_from ws os o (Choice node comparison) h = eq-eqb (get_or os node 0) o h
 passes_from ws os o (Pair op left right) (a, b) =
     and_from (eqb (get_or os left 0) o) (eqb (get_or os right 0) (right_start op o (get_or ws left 0))) (eq-eqb (get_or os left 0) o a) (eq-eqb (get_or os right 0) (right_start op o (get_or ws left 0)) b)
 
 -- whether a node passes its offset on is about the nodes that it names alone
 passes_kept : (ws os ps : List ℕ) (o : ℕ) (n : Node) → ((c : ℕ) → 0 < namings c n → get_or ps c 0 ≡ get_or os c 0) → Passes ws os o n → Passes ws ps o n
 passes_kept ws os ps o (Leaf relation arity fields) h p = tt
-passes_kept ws os ps o (Choice node left sign right) h p = h node (omega (arith, hit node node refl)) ∙ p
+passes_kept ws os ps o (Choice node comparison) h p = h node (omega (arith, hit node node refl)) ∙ p
 passes_kept ws os ps o (Pair op left right) h (p, q) = (h left (omega (arith, hit left left refl)) ∙ p, h right (omega (arith, hit right right refl)) ∙ q)
 
 two_of : {A : Type 0} (f : A → ℕ) (xs : List A) (k j : ℕ) (d : A) → k < j → j < length xs → f (get_or xs k d) + f (get_or xs j d) ≤ sum_by f xs
@@ -108,10 +107,10 @@ module _ (nodes : List Node) (early : Earlier nodes) (once : (c : ℕ) → c < l
   ]
 
   module _ (k : ℕ) (within : k < length nodes) (os : List ℕ) (inv : Inv nodes ws (k + 1) os) where
-    pub choice_step : (m : ℕ) (left : Side) (sign : Sign) (right : Side) → get_or nodes k blank ≡ Choice m left sign right → Inv nodes ws k (set os m (get_or os k 0))
-    choice_step m left sign right e =
+    pub choice_step : (m : ℕ) (comparison : Comparison ℕ) → get_or nodes k blank ≡ Choice m comparison → Inv nodes ws k (set os m (get_or os k 0))
+    choice_step m comparison e =
         let o : ℕ = get_or os k 0 in
-        let (l, same, _) = choice_fits nodes early ws wide k within m left sign right e in
+        let (l, same, _) = choice_fits nodes early ws wide k within m comparison e in
         let fits : m < length os = omega (arith, inv.3) in
         let room : o + get_or ws k 0 ≤ 8 = inv.1 k within in
         stepped k within os (set os m o)

@@ -20,7 +20,7 @@ use Rattle.plan.proofs.Numbering.{leaf_of, Stands, stands, numbered}
 
 node_of : (k : ℕ) (n : Node) → (leaf_of k n).node ≡ k
 node_of k (Leaf relation arity fields) = refl
-node_of k (Choice node left sign right) = refl
+node_of k (Choice node comparison) = refl
 node_of k (Pair op left right) = refl
 
 -- a leaf of the plan: it stands at a node, and is that node's leaf
@@ -44,7 +44,7 @@ module _ (plan : Plan) where
 
   width_by : (k : ℕ) → k < length (nodes_of plan) → (n : Node) → get_or (nodes_of plan) k blank ≡ n → leaf_count n ≡ 1 → get_or (widths_of plan) k 0 ≡ opens (leaf_of k n).fields
   width_by k h (Leaf relation arity fields) e one = leaf_in plan k h relation arity fields e
-  width_by k h (Choice node left sign right) e one = absurd (omega arith)
+  width_by k h (Choice node comparison) e one = absurd (omega arith)
   width_by k h (Pair op left right) e one = absurd (omega arith)
 
   -- a leaf's part of a line has as many numbers as the leaf has open columns

@@ -1,9 +1,8 @@
 -- What a plan keeps of its nodes, one by one.
-use Rattle.std.proofs.Common.{◌≡◌, ℕ, ◌+◌, ◌<◌, ◌≤◌, ap, true, ◌&&◌, List, length, get_or, drop, subst, arith, length-drop, length-take-le, sym, ◌∙◌}
+use Rattle.std.proofs.Common.{◌≡◌, ℕ, ◌+◌, ◌<◌, ◌≤◌, ap, true, List, length, get_or, drop, subst, arith, length-drop, length-take-le, sym, ◌∙◌}
 use lib.ListN.{length-map}
 use Rattle.std.proofs.lemmas.List.{get_or-map}
 use Rattle.ordered.specs.Lists.{items_in}
-use Rattle.store.specs.declared.sign.Sign.{Sign}
 use Rattle.plan.specs.Answers.{width_by}
 use Rattle.plan.specs.Filling.{inside, alike}
 use Rattle.plan.specs.Leaves.{fields_of, opens}
@@ -12,7 +11,7 @@ use Rattle.plan.specs.Parts.{passes}
 use Rattle.plan.specs.Plans.{nodes_of, widths_of, starts_of}
 use Rattle.plan.specs.Truths.{part_at}
 use Rattle.plan.specs.declared.node.Field.{Field}
-use Rattle.plan.specs.declared.node.Side.{Side}
+use Rattle.store.specs.declared.comparison.Comparison.{Comparison}
 use Rattle.plan.specs.declared.node.Op.{Op}
 use Rattle.plan.specs.declared.node.Node.{Node}
 use Rattle.plan.specs.declared.node.Node.TheVariants.{Leaf, Choice, Pair}
@@ -44,9 +43,9 @@ module _ (plan : Plan) (k : ℕ) (within : k < length (nodes_of plan)) where
   pub leaf_in : (relation arity : ℕ) (fields : List Field) → get_or (nodes_of plan) k blank ≡ Leaf relation arity fields → get_or (widths_of plan) k 0 ≡ opens (fields_of arity fields)
   leaf_in relation arity fields e = leaf_wide (nodes_of plan) plan.early (widths_of plan) plan.wide k within relation arity fields e
 
-  pub choice_in : (m : ℕ) (left : Side) (sign : Sign) (right : Side) → get_or (nodes_of plan) k blank ≡ Choice m left sign right →
-      (m < k) × (get_or (widths_of plan) k 0 ≡ get_or (widths_of plan) m 0) × ((inside (get_or (widths_of plan) m 0) left && inside (get_or (widths_of plan) m 0) right) ≡ true)
-  choice_in m left sign right e = choice_fits (nodes_of plan) plan.early (widths_of plan) plan.wide k within m left sign right e
+  pub choice_in : (m : ℕ) (comparison : Comparison ℕ) → get_or (nodes_of plan) k blank ≡ Choice m comparison →
+      (m < k) × (get_or (widths_of plan) k 0 ≡ get_or (widths_of plan) m 0) × (inside (get_or (widths_of plan) m 0) comparison ≡ true)
+  choice_in m comparison e = choice_fits (nodes_of plan) plan.early (widths_of plan) plan.wide k within m comparison e
 
   pub pair_in : (op : Op) (left right : ℕ) → get_or (nodes_of plan) k blank ≡ Pair op left right →
       (left < k) × (right < k) × (get_or (widths_of plan) k 0 ≡ width_by op (get_or (widths_of plan) left 0) (get_or (widths_of plan) right 0)) × (alike op (get_or (widths_of plan) left 0) (get_or (widths_of plan) right 0) ≡ true)

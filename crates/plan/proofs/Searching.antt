@@ -3,7 +3,6 @@ use Rattle.std.proofs.Common.{◌≡◌, ℕ, ◌+◌, ◌-◌, ◌<◌, ◌≤�
 use Rattle.std.proofs.Math.Seq.{take-add}
 use Rattle.std.proofs.lemmas.Bool.{eqb-true}
 use Rattle.store.specs.declared.row.Row.{Row}
-use Rattle.store.specs.declared.sign.Sign.{Sign}
 use Rattle.plan.specs.Answers.{chosen, lines_by}
 use Rattle.plan.specs.Leaves.{fields_of, leaf_lines}
 use Rattle.plan.specs.Nodes.{grown, blank}
@@ -11,7 +10,7 @@ use Rattle.plan.specs.Plans.{nodes_of, widths_of}
 use Rattle.plan.specs.Seeking.{Padded, Least, lesser, on_left, on_right}
 use Rattle.plan.specs.Streams.{before, candidates_of, candidates_at}
 use Rattle.plan.specs.declared.node.Field.{Field}
-use Rattle.plan.specs.declared.node.Side.{Side}
+use Rattle.store.specs.declared.comparison.Comparison.{Comparison}
 use Rattle.plan.specs.declared.node.Op.TheVariants.{Product, Union, Difference}
 use Rattle.plan.specs.declared.node.Node.{Node}
 use Rattle.plan.specs.declared.node.Node.TheVariants.{Leaf, Choice, Pair}
@@ -48,16 +47,16 @@ module _ (plan : Plan) (rows : List Row) where
         Least (leaf_lines relation (fields_of arity fields) rows) (with_line start (take (Wide k) at)) (Wide k) r → Finds k at start r
     leaf_finds relation arity fields e r l = moved (leaf_lines relation (fields_of arity fields) rows) (Wide k) (are (Leaf relation arity fields) e) refl r l
 
-    module _ (m : ℕ) (left : Side) (sign : Sign) (right : Side) (e : get_or (nodes_of plan) k blank ≡ Choice m left sign right) (from : Option (List ℕ)) (found : Finds m at start from) where
+    module _ (m : ℕ) (comparison : Comparison ℕ) (e : get_or (nodes_of plan) k blank ≡ Choice m comparison) (from : Option (List ℕ)) (found : Finds m at start from) where
       abbrev Test : List ℕ → Bool
-      Test = chosen left sign right
+      Test = chosen comparison
 
       pub choice_finds : (a : List ℕ) → Goes (Cands m) Test (Wide m) from (Some a) → Test (take (Wide m) a) ≡ true → Finds k at start (Some a)
-      choice_finds a g good = moved _ (Wide m) (are (Choice m left sign right) e) (choice_in plan k h m left sign right e).1 (Some a)
+      choice_finds a g good = moved _ (Wide m) (are (Choice m comparison) e) (choice_in plan k h m comparison e).1 (Some a)
           (going_found (Cands m) Test (with_line start (take (Wide m) at)) (Wide m) a (goes_end (Cands m) Test (with_line start (take (Wide m) at)) (Wide m) from found (Some a) g) good)
 
       pub choice_ends : Goes (Cands m) Test (Wide m) from None → Finds k at start None
-      choice_ends g = moved _ (Wide m) (are (Choice m left sign right) e) (choice_in plan k h m left sign right e).1 None
+      choice_ends g = moved _ (Wide m) (are (Choice m comparison) e) (choice_in plan k h m comparison e).1 None
           (going_none (Cands m) Test (with_line start (take (Wide m) at)) (Wide m) (goes_end (Cands m) Test (with_line start (take (Wide m) at)) (Wide m) from found None g))
 
     pub union_finds : (l r : ℕ) → get_or (nodes_of plan) k blank ≡ Pair Union l r → (a b : Option (List ℕ)) → Finds l at start a → Finds r at start b → Finds k at start (lesser (Wide k) a b)

@@ -13,7 +13,7 @@ NoLeaf n = (relation arity : ℕ) (fields : List Field) → n ≡ Leaf relation 
 
 pub no_leaf_count : (n : Node) → NoLeaf n → leaf_count n ≡ 0
 no_leaf_count (Leaf relation arity fields) other = absurd (other relation arity fields refl)
-no_leaf_count (Choice node left sign right) other = refl
+no_leaf_count (Choice node comparison) other = refl
 no_leaf_count (Pair op left right) other = refl
 
 module _ (nodes : List Node) (k : ℕ) (l : k < length nodes) where

@@ -3,13 +3,11 @@ use Rattle.std.specs.Prelude.{ℕ, ◌+◌, ◌-◌, Bool, not, List, [], ◌++�
 use Rattle.std.specs.List.{flat_map}
 use Rattle.store.specs.Lists.{any, same_numbers}
 use Rattle.store.specs.Rows.{same_row}
-use Rattle.store.specs.Signs.{compares}
+use Rattle.store.specs.Sides.{holds_by}
+use Rattle.store.specs.declared.comparison.Comparison.{Comparison}
 use Rattle.store.specs.declared.row.Row.{Row}
-use Rattle.store.specs.declared.sign.Sign.{Sign}
 use Rattle.plan.specs.Leaves.{fields_of, opens, leaf_lines}
 use Rattle.plan.specs.Nodes.{grown}
-use Rattle.plan.specs.declared.node.Side.{Side}
-use Rattle.plan.specs.declared.node.Side.TheVariants.{Column, Constant}
 use Rattle.plan.specs.declared.node.Op.{Op}
 use Rattle.plan.specs.declared.node.Op.TheVariants.{Product, Union, Difference}
 use Rattle.plan.specs.declared.node.Node.{Node}
@@ -23,14 +21,9 @@ has lines line = any (same_numbers line) lines
 abbrev pub among : List Row → Row → Bool
 among rows row = any (same_row row) rows
 
--- what a side of a comparison is for a line
-abbrev pub value_in : List ℕ → Side → ℕ
-value_in line (Column i) = slice_index line i
-value_in line (Constant n) = n
-
--- the comparison holds for the line
-abbrev pub chosen : Side → Sign → Side → List ℕ → Bool
-chosen left sign right line = compares sign (value_in line left) (value_in line right)
+-- the comparison holds for the line, whose columns it names by their numbers
+abbrev pub chosen : Comparison ℕ → List ℕ → Bool
+chosen comparison line = holds_by (slice_index line) comparison
 
 -- how wide a pair is, from the widths of its nodes
 abbrev pub width_by : Op → ℕ → ℕ → ℕ
@@ -47,13 +40,13 @@ lines_by Difference lefts rights = filter (λ line. not (has rights line)) lefts
 -- the width of a node, from the widths of the nodes before it
 abbrev pub width_of : List ℕ → Node → ℕ
 width_of done (Leaf relation arity fields) = opens (fields_of arity fields)
-width_of done (Choice node left sign right) = slice_index done node
+width_of done (Choice node comparison) = slice_index done node
 width_of done (Pair op left right) = width_by op (slice_index done left) (slice_index done right)
 
 -- the lines of a node over rows, from the lines of the nodes before it
 abbrev pub lines_of : List Row → List (List (List ℕ)) → Node → List (List ℕ)
 lines_of rows done (Leaf relation arity fields) = leaf_lines relation (fields_of arity fields) rows
-lines_of rows done (Choice node left sign right) = filter (chosen left sign right) (slice_index_or done node [])
+lines_of rows done (Choice node comparison) = filter (chosen comparison) (slice_index_or done node [])
 lines_of rows done (Pair op left right) = lines_by op (slice_index_or done left []) (slice_index_or done right [])
 
 -- the width of the node at k

@@ -1,11 +1,11 @@
 -- Which nodes make a plan: the questions that fill asks, in order.
 use Rattle.std.specs.Prelude.{◌≡◌, ℕ, zero, suc, ◌-◌, ◌<◌, Bool, true, false, cond, not, ◌&&◌, ◌||◌, List, [], length, take, Some, None, sum_by, Option, ◌==◌, nat_le, nat_lt, slice_index, slice_index_or}
 use Rattle.fault.specs.Questions.{ask}
+use Rattle.store.specs.Sides.{all_columns}
+use Rattle.store.specs.declared.comparison.Comparison.{Comparison}
 use Rattle.plan.specs.Leaves.{fields_of, opens}
 use Rattle.plan.specs.Nodes.{grown, blank, late, namings, leaf_count}
 use Rattle.plan.specs.Answers.{width_of}
-use Rattle.plan.specs.declared.node.Side.{Side}
-use Rattle.plan.specs.declared.node.Side.TheVariants.{Column, Constant}
 use Rattle.plan.specs.declared.node.Op.{Op}
 use Rattle.plan.specs.declared.node.Op.TheVariants.{Product, Union, Difference}
 use Rattle.plan.specs.declared.node.Node.{Node}
@@ -46,7 +46,7 @@ stray_at nodes k = not (sum_by (namings k) nodes == 1)
 -- a leaf, with so many leaves before it, is the seventh, has no arity from 1 to 4, or has no open column
 abbrev pub poor : ℕ → Node → Bool
 poor before (Leaf relation arity fields) = nat_le 6 before || (arity == 0 || (nat_lt 4 arity || opens (fields_of arity fields) == 0))
-poor before (Choice node left sign right) = false
+poor before (Choice node comparison) = false
 poor before (Pair op left right) = false
 
 -- how many leaves stand before the node at k
@@ -57,10 +57,9 @@ leaves_before nodes k = sum_by leaf_count (take k nodes)
 abbrev pub poor_at : List Node → ℕ → Bool
 poor_at nodes k = poor (leaves_before nodes k) (slice_index_or nodes k blank)
 
--- a side is a constant, or a column below the width
-abbrev pub inside : ℕ → Side → Bool
-inside width (Column i) = nat_lt i width
-inside width (Constant n) = true
+-- each column of the comparison is below the width
+abbrev pub inside : ℕ → Comparison ℕ → Bool
+inside width comparison = all_columns (λ column. nat_lt column width) comparison
 
 -- the two sides of a union or a difference have one width
 abbrev pub alike : Op → ℕ → ℕ → Bool
@@ -71,7 +70,7 @@ alike Difference left right = left == right
 -- a node's sides fit, by the widths of the nodes before it
 abbrev pub sides_fit : List ℕ → Node → Bool
 sides_fit done (Leaf relation arity fields) = true
-sides_fit done (Choice node left sign right) = inside (slice_index done node) left && inside (slice_index done node) right
+sides_fit done (Choice node comparison) = inside (slice_index done node) comparison
 sides_fit done (Pair op left right) = alike op (slice_index done left) (slice_index done right)
 
 -- a node's sides do not fit, or it is wider than 8

@@ -12,7 +12,7 @@ use Rattle.plan.specs.declared.node.Node.TheVariants.{Leaf, Choice, Pair}
 abbrev pub leaves_from : ℕ → List Node → List PlanLeaf
 leaves_from k [] = []
 leaves_from k (Leaf relation arity fields ∷ nodes) = record { node = k; relation = relation; arity = arity; fields = fields_of arity fields } ∷ leaves_from (k + 1) nodes
-leaves_from k (Choice node left sign right ∷ nodes) = leaves_from (k + 1) nodes
+leaves_from k (Choice node comparison ∷ nodes) = leaves_from (k + 1) nodes
 leaves_from k (Pair op left right ∷ nodes) = leaves_from (k + 1) nodes
 
 -- the leaves of a plan

@@ -18,7 +18,7 @@ ByNames = (plan : Plan) (columns : List ℕ) (rows : List Row) (truth : List Boo
 -- each node that a node names passes
 abbrev pub under : List Bool → Node → Bool
 under done (Leaf relation arity fields) = true
-under done (Choice node left sign right) = slice_index_or done node true
+under done (Choice node comparison) = slice_index_or done node true
 under done (Pair op left right) = slice_index_or done left true && slice_index_or done right true
 
 -- the node at k fits, and so does every node of the tree under it

@@ -15,17 +15,17 @@ blank = Leaf 0 0 []
 -- the node at k names one that is not earlier
 abbrev pub late : ℕ → Node → Bool
 late k (Leaf relation arity fields) = false
-late k (Choice node left sign right) = nat_le k node
+late k (Choice node comparison) = nat_le k node
 late k (Pair op left right) = nat_le k left || nat_le k right
 
 -- how often a node names the node at c
 abbrev pub namings : ℕ → Node → ℕ
 namings c (Leaf relation arity fields) = 0
-namings c (Choice node left sign right) = cond (node == c) 1 0
+namings c (Choice node comparison) = cond (node == c) 1 0
 namings c (Pair op left right) = cond (left == c) 1 0 + cond (right == c) 1 0
 
 -- 1 for a leaf, 0 for any other node
 abbrev pub leaf_count : Node → ℕ
 leaf_count (Leaf relation arity fields) = 1
-leaf_count (Choice node left sign right) = 0
+leaf_count (Choice node comparison) = 0
 leaf_count (Pair op left right) = 0

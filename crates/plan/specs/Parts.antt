@@ -21,7 +21,7 @@ right_start Difference o left = o
 -- the lines of the nodes that a node names begin where they should, if its own begins at o
 abbrev pub passes : List ℕ → List ℕ → ℕ → Node → Bool
 passes widths offsets o (Leaf relation arity fields) = true
-passes widths offsets o (Choice node left sign right) = slice_index offsets node == o
+passes widths offsets o (Choice node comparison) = slice_index offsets node == o
 passes widths offsets o (Pair op left right) = slice_index offsets left == o && slice_index offsets right == right_start op o (slice_index widths left)
 
 -- where each node's line begins in the plan's: the last one's at 0, and so on down

@@ -27,7 +27,7 @@ candidates_by Difference lefts rights = lefts
 -- the candidates of a node over rows, from those of the nodes before it
 abbrev pub candidates_of : List Row → List (List (List ℕ)) → Node → List (List ℕ)
 candidates_of rows done (Leaf relation arity fields) = leaf_lines relation (fields_of arity fields) rows
-candidates_of rows done (Choice node left sign right) = filter (chosen left sign right) (slice_index_or done node [])
+candidates_of rows done (Choice node comparison) = filter (chosen comparison) (slice_index_or done node [])
 candidates_of rows done (Pair op left right) = candidates_by op (slice_index_or done left []) (slice_index_or done right [])
 
 -- the candidates of the node at k

@@ -31,7 +31,7 @@ combined Difference left right = left && not right
 -- the truth of a node, from that of the row that it names, of its part of the line, and of the nodes before it
 abbrev pub truth_of : Bool → List ℕ → List Bool → Node → Bool
 truth_of own part done (Leaf relation arity fields) = own
-truth_of own part done (Choice node left sign right) = slice_index_or done node false && chosen left sign right part
+truth_of own part done (Choice node comparison) = slice_index_or done node false && chosen comparison part
 truth_of own part done (Pair op left right) = combined op (slice_index_or done left false) (slice_index_or done right false)
 
 -- the truth of each node for a line, where `truth` tells in order whether the rows are there that the leaves name

@@ -25,6 +25,6 @@ mod widths;
 pub use laws::{by_names, first_fault};
 pub use leaf::PlanLeaf;
 pub use line::Line;
-pub use node::{Field, Node, Op, Side};
+pub use node::{Comparison, Field, Node, Op, Side};
 pub use plan::Plan;
 pub use refusal::Refusal;

@@ -1,5 +1,4 @@
 // The nodes that a plan is made of.
-use store::Sign;
 
 // What a leaf asks of a column: nothing, so that it is part of the leaf's lines, or this constant.
 #[derive(Clone, Copy)]
@@ -8,13 +7,10 @@ pub enum Field {
     Fixed(u32),
 }
 
-// What a choice compares: a column of the line, or a constant. The crate `rules` has sides of its own, whose columns are named
-// by two numbers: one type for both would need a parameter for its two uses.
-#[derive(Clone, Copy)]
-pub enum Side {
-    Column(u8),
-    Constant(u32),
-}
+// One side of what a choice compares: a column of the line, or a constant.
+pub type Side = store::Side<u8>;
+
+pub type Comparison = store::Comparison<u8>;
 
 // How a pair makes its lines from those of its two nodes.
 #[derive(Clone, Copy)]
@@ -39,9 +35,7 @@ pub enum Node {
     // the lines of a node for which the comparison holds
     Choice {
         node: u8,
-        left: Side,
-        sign: Sign,
-        right: Side,
+        comparison: Comparison,
     },
     Pair {
         op: Op,

@@ -3,25 +3,15 @@ ghost use Rattle.std.specs.Prelude.{◌≡◌, ◌≤◌, false, length, Some, M
 ghost use Rattle.std.specs.List.{All};
 ghost use Rattle.ordered.specs.Lists.{items_in};
 ghost use Rattle.plan.specs.Answers.{width_of};
-ghost use Rattle.plan.specs.Filling.{inside, sides_fit, unfit_at, Spots};
+ghost use Rattle.plan.specs.Filling.{sides_fit, unfit_at, Spots};
 ghost use Rattle.plan.specs.Nodes.{late};
 ghost use Rattle.plan.specs.Steps.{widths_in, Begun};
 
 use crate::leaf::PlanLeaf;
-use crate::node::{Node, Op, Side};
+use crate::node::{Node, Op};
 use crate::step::Step;
 use crate::tree::Tree;
 use ordered::Few;
-
-// Whether a side can be compared in a line of this width.
-fn is_inside(width: u8, side: Side) -> bool
-    ensures { result ≡ inside width side }
-{
-    match side {
-        Side::Column(column) => column < width,
-        Side::Constant(_) => true,
-    }
-}
 
 // Whether the node that comes after these steps fits the widths of those that it names.
 fn sides_fit(node: Node, steps: &[Step]) -> bool
@@ -30,14 +20,9 @@ fn sides_fit(node: Node, steps: &[Step]) -> bool
 {
     match node {
         Node::Leaf { .. } => true,
-        Node::Choice {
-            node,
-            left,
-            right,
-            ..
-        } => {
+        Node::Choice { node, comparison } => {
             let width = steps[node as usize].width;
-            is_inside(width, left) && is_inside(width, right)
+            comparison.all_columns(|column| column < width)
         }
         Node::Pair { op, left, right } => match op {
             Op::Product => true,

@@ -1,7 +1,7 @@
 // Short words for nodes.
 ghost use Rattle.std.specs.Prelude.{◌≡◌, [], ◌∷◌, replicate};
 
-use plan::{Field, Node, Op, Side};
+use plan::{Comparison, Field, Node, Op, Side};
 use store::Sign;
 
 // A leaf of this arity with every column open.
@@ -32,9 +32,7 @@ pub(crate) fn second(relation: u16, column: u32) -> Node
 pub(crate) fn choice(node: u8, left: Side, sign: Sign, right: Side) -> Node {
     Node::Choice {
         node,
-        left,
-        sign,
-        right,
+        comparison: Comparison { left, sign, right },
     }
 }
 

@@ -1,15 +1,15 @@
 // Comparisons, written short, and the rules that are made of them.
 ghost use Rattle.std.specs.Prelude.{◌≡◌, [], ◌∷◌};
-ghost use Rattle.rink.specs.Comparisons.{always, both, with_number};
+ghost use Rattle.rink.specs.Comparisons.{always, both, column_of, with_number};
 
-use rules::{Comparison, Side};
+use rules::{AtomColumn, Comparison, Side};
 use store::Sign;
 
 // A column of the row that is chosen for an atom.
 fn column_of(atom: u8, column: u8) -> Side
-    ensures { result ≡ Side.Column atom column }
+    ensures { result ≡ column_of atom column }
 {
-    Side::Column { atom, column }
+    Side::Column(AtomColumn { atom, column })
 }
 
 // The same column of two atoms, compared.

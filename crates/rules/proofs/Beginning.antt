@@ -9,7 +9,11 @@ use Rattle.std.proofs.lemmas.Bool.{both_ways, and_parts, and_from, or_cases, or_
 use Rattle.store.specs.Lists.{any, all}
 use Rattle.store.specs.Places.{OnceIn}
 use Rattle.store.specs.Rows.{same_row}
+use Rattle.store.specs.Sides.{side_value}
 use Rattle.store.specs.Signs.{compares}
+use Rattle.store.specs.declared.comparison.Side.{Side}
+use Rattle.store.specs.declared.comparison.Side.TheVariants.{Column, Constant}
+use Rattle.store.specs.declared.comparison.Comparison.{Comparison}
 use Rattle.store.specs.declared.row.Row.{Row}
 use Rattle.store.proofs.Alike.{same_row_is, same_row_refl}
 use Rattle.store.proofs.Tests.{from_not, all_at, all_put}
@@ -18,11 +22,9 @@ use Rattle.rules.specs.Choosing.{Choice}
 use Rattle.rules.specs.Comparisons.{side_atom, last_atom, within}
 use Rattle.store.specs.Held.{given}
 use Rattle.rules.specs.Listing.{rows_at, is_held}
-use Rattle.rules.specs.Rules.{Denial, side_of, satisfied, of_relations, breaks}
+use Rattle.rules.specs.Rules.{Denial, column_of, satisfied, of_relations, breaks}
 use Rattle.rules.specs.Sets.{distinct}
-use Rattle.rules.specs.declared.rule.Side.{Side}
-use Rattle.rules.specs.declared.rule.Side.TheVariants.{Column, Constant}
-use Rattle.rules.specs.declared.rule.Comparison.{Comparison}
+use Rattle.rules.specs.declared.rule.AtomColumn.{AtomColumn}
 use Rattle.rules.proofs.Apart.{apart_first, apart_rest, apart_put}
 use Rattle.rules.proofs.Ascents.{place_in, place_has}
 use Rattle.rules.proofs.Choosing.{at_pick, at_put, rows_length}
@@ -78,33 +80,33 @@ relations_long [] (x ∷ xs) h = absurd (both_ways false refl h)
 relations_long (a ∷ atoms) (x ∷ xs) h = omega (arith, relations_long atoms xs (and_parts (eqb a x.relation) (of_relations (take (length xs) atoms) xs) h).1)
 
 -- a side that waits for none of the further rows stands for the same without them
-side_settled : (xs ys : List Row) (side : Side) → side_atom side < length xs → side_of (xs ++ ys) side ≡ side_of xs side
+side_settled : (xs ys : List Row) (side : Side AtomColumn) → side_atom side < length xs → side_value (column_of (xs ++ ys)) side ≡ side_value (column_of xs) side
 side_settled xs ys (Constant n) lt = refl
-side_settled xs ys (Column atom column) lt =
+side_settled xs ys (Column c) lt =
     let columns : Row → List ℕ = λ r. r.columns in
-    ap (λ l. get_or l column 0) (ap (λ l. get_or l atom []) (map-append columns xs ys) ∙ get_or_append_left (map columns xs) (map columns ys) [] atom (omega (arith, length-map xs columns)))
+    ap (λ l. get_or l c.column 0) (ap (λ l. get_or l c.atom []) (map-append columns xs ys) ∙ get_or_append_left (map columns xs) (map columns ys) [] c.atom (omega (arith, length-map xs columns)))
 
-settled : (xs ys : List Row) (c : Comparison) → last_atom c < length xs → satisfied (xs ++ ys) c ≡ satisfied xs c
+settled : (xs ys : List Row) (c : Comparison AtomColumn) → last_atom c < length xs → satisfied (xs ++ ys) c ≡ satisfied xs c
 settled xs ys c lt = ap₂ (compares c.sign) (side_settled xs ys c.left (omega arith)) (side_settled xs ys c.right (omega arith))
 
 -- what holds of all the rows holds of the first of them
-so_far : (xs ys : List Row) (c : Comparison) → satisfied (xs ++ ys) c ≡ true → holds_so_far xs c ≡ true
+so_far : (xs ys : List Row) (c : Comparison AtomColumn) → satisfied (xs ++ ys) c ≡ true → holds_so_far xs c ≡ true
 so_far xs ys c h = ⊎_elim
     (λ (lt : last_atom c < length xs). or_right (leb (length xs) (last_atom c)) _ (sym (settled xs ys c lt) ∙ h))
     (λ (le : length xs ≤ last_atom c). or_left _ (satisfied xs c) (le-leb (length xs) (last_atom c) le))
     (cases_lt (last_atom c) (length xs))
 
-decided : (rows : List Row) (c : Comparison) → last_atom c < length rows → holds_so_far rows c ≡ true → satisfied rows c ≡ true
+decided : (rows : List Row) (c : Comparison AtomColumn) → last_atom c < length rows → holds_so_far rows c ≡ true → satisfied rows c ≡ true
 decided rows c lt h = ⊎_elim (λ e. absurd (both_ways _ (lt-leb (length rows) (last_atom c) lt) e)) (λ e. e) (or_cases (leb (length rows) (last_atom c)) (satisfied rows c) h)
 
 -- one row more decides the comparisons that waited for it
-at_last : (rows : List Row) (c : Comparison) → holds_so_far rows c ≡ true → holds_at_last rows c ≡ true
+at_last : (rows : List Row) (c : Comparison AtomColumn) → holds_so_far rows c ≡ true → holds_at_last rows c ≡ true
 at_last rows c h = ⊎_elim
     (λ (e : suc (last_atom c) ≡ length rows). or_right (not (eqb (suc (last_atom c)) (length rows))) _ (decided rows c (omega arith) h))
     (λ ne. or_left _ (satisfied rows c) (not_from_false _ (ne_eqb (suc (last_atom c)) (length rows) ne)))
     (cases_eq (suc (last_atom c)) (length rows))
 
-one_more : (xs : List Row) (r : Row) (c : Comparison) → holds_so_far xs c ≡ true → holds_at_last (xs ++ r ∷ []) c ≡ true → holds_so_far (xs ++ r ∷ []) c ≡ true
+one_more : (xs : List Row) (r : Row) (c : Comparison AtomColumn) → holds_so_far xs c ≡ true → holds_at_last (xs ++ r ∷ []) c ≡ true → holds_so_far (xs ++ r ∷ []) c ≡ true
 one_more xs r c h k =
     let long = length_push xs r in
     ⊎_elim
@@ -128,7 +130,7 @@ module _ (table : List (Option Row)) where
   rows_push xs p r e = rows_append xs (p ∷ []) ∙ ap (λ o. rows_at table xs ++ (given o ++ [])) e
 
   module _ (rule : Denial) where
-    abbrev cs : List Comparison
+    abbrev cs : List (Comparison AtomColumn)
     cs = rule.comparisons
 
     pub begins_parts : (xs : List ℕ) → begins table rule xs ≡ true →

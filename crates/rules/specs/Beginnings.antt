@@ -4,13 +4,14 @@ use Rattle.ordered.specs.Lists.{items_in}
 use Rattle.ordered.specs.declared.few.Few.{Few}
 use Rattle.store.specs.Lists.{all}
 use Rattle.store.specs.Rows.{same_row}
+use Rattle.store.specs.declared.comparison.Comparison.{Comparison}
 use Rattle.store.specs.declared.row.Row.{Row}
 use Rattle.rules.specs.Comparisons.{last_atom}
 use Rattle.rules.specs.Listing.{rows_at, is_held}
 use Rattle.rules.specs.Rules.{Denial, satisfied, of_relations}
 use Rattle.rules.specs.Sets.{distinct}
 use Rattle.rules.specs.declared.chosen.Pick.{Pick}
-use Rattle.rules.specs.declared.rule.Comparison.{Comparison}
+use Rattle.rules.specs.declared.rule.AtomColumn.{AtomColumn}
 
 -- the rows of some picks
 abbrev pub rows_of_picks : List Pick → List Row
@@ -28,11 +29,11 @@ abbrev pub rows_in : Chosen → List Row
 rows_in c = rows_of_picks (items_in c)
 
 -- the comparison holds, if the rows for its atoms are among these
-abbrev pub holds_so_far : List Row → Comparison → Bool
+abbrev pub holds_so_far : List Row → Comparison AtomColumn → Bool
 holds_so_far rows c = nat_le (length rows) (last_atom c) || satisfied rows c
 
 -- the comparison holds, if it waited for the last of these rows
-abbrev pub holds_at_last : List Row → Comparison → Bool
+abbrev pub holds_at_last : List Row → Comparison AtomColumn → Bool
 holds_at_last rows c = not (suc (last_atom c) == length rows) || satisfied rows c
 
 -- rows for the first atoms of the rule, all different, that break it as far as they go

@@ -4,12 +4,12 @@ use Rattle.fault.specs.Notices.{notice}
 use Rattle.fault.specs.Questions.{ask}
 use Rattle.fault.specs.declared.notice.Notice.{Notice}
 use Rattle.store.specs.Lists.{all}
+use Rattle.store.specs.Sides.{all_columns}
+use Rattle.store.specs.declared.comparison.Comparison.{Comparison}
 use Rattle.rules.specs.Rules.{denial}
 use Rattle.rules.specs.declared.refusal.Refusal.{Refusal}
 use Rattle.rules.specs.declared.refusal.Refusal.TheVariants.{Malformed, UndeclaredAtom, NoSuchColumn}
-use Rattle.rules.specs.declared.rule.Side.{Side}
-use Rattle.rules.specs.declared.rule.Side.TheVariants.{Column, Constant}
-use Rattle.rules.specs.declared.rule.Comparison.{Comparison}
+use Rattle.rules.specs.declared.rule.AtomColumn.{AtomColumn}
 use Rattle.rules.specs.declared.rule.Rule.{Rule}
 
 -- the position is that of the atom or the comparison that fails
@@ -19,7 +19,7 @@ notice_of (UndeclaredAtom atom) = notice 23 atom
 notice_of (NoSuchColumn comparison) = notice 24 comparison
 
 -- one to three atoms, and at most six comparisons
-abbrev pub well_formed : List ℕ → List Comparison → Bool
+abbrev pub well_formed : List ℕ → List (Comparison AtomColumn) → Bool
 well_formed atoms comparisons = nat_lt 0 (length atoms) && (nat_le (length atoms) 3 && nat_le (length comparisons) 6)
 
 -- the relation has an arity
@@ -27,13 +27,12 @@ abbrev pub is_declared : (ℕ → ℕ) → ℕ → Bool
 is_declared arity relation = nat_lt 0 (arity relation)
 
 -- a column is one of an atom of the rule, below the arity of that atom's relation
-abbrev pub side_names : (ℕ → ℕ) → List ℕ → Side → Bool
-side_names arity atoms (Column atom column) = nat_lt atom (length atoms) && nat_lt column (arity (slice_index atoms atom))
-side_names arity atoms (Constant n) = true
+abbrev pub column_named : (ℕ → ℕ) → List ℕ → AtomColumn → Bool
+column_named arity atoms c = nat_lt c.atom (length atoms) && nat_lt c.column (arity (slice_index atoms c.atom))
 
--- both sides are so
-abbrev pub names : (ℕ → ℕ) → List ℕ → Comparison → Bool
-names arity atoms c = side_names arity atoms c.left && side_names arity atoms c.right
+-- each column of the comparison is so
+abbrev pub names : (ℕ → ℕ) → List ℕ → Comparison AtomColumn → Bool
+names arity atoms c = all_columns (column_named arity atoms) c
 
 -- the index of the first element that fails the test
 abbrev pub first_failing : {A : Type 0} → (A → Bool) → List A → ℕ
@@ -41,14 +40,14 @@ first_failing test [] = 0
 first_failing test (x ∷ xs) = cond (test x) (suc (first_failing test xs)) 0
 
 -- the questions, in order: is it well formed, is each atom's relation declared, does each comparison name atoms of the rule and columns below their arity?
-abbrev pub rule_refusal : (ℕ → ℕ) → List ℕ → List Comparison → Option Refusal
+abbrev pub rule_refusal : (ℕ → ℕ) → List ℕ → List (Comparison AtomColumn) → Option Refusal
 rule_refusal arity atoms comparisons =
     ask (well_formed atoms comparisons) Malformed
     (ask (all (is_declared arity) atoms) (UndeclaredAtom (first_failing (is_declared arity) atoms))
     (ask (all (names arity atoms) comparisons) (NoSuchColumn (first_failing (names arity atoms) comparisons)) None))
 
 -- the rule that is meant by these atoms and comparisons, or else the refusal of the first question that is answered No
-abbrev pub CheckSays : (ℕ → ℕ) → List ℕ → List Comparison → Result Rule Refusal → Type 0
+abbrev pub CheckSays : (ℕ → ℕ) → List ℕ → List (Comparison AtomColumn) → Result Rule Refusal → Type 0
 CheckSays arity atoms comparisons (Ok rule) = (rule_refusal arity atoms comparisons ≡ None) × (denial rule ≡ record { atoms = atoms; comparisons = comparisons })
 CheckSays arity atoms comparisons (Err e) = rule_refusal arity atoms comparisons ≡ Some e
 

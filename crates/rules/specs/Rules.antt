@@ -4,31 +4,29 @@ use Rattle.std.specs.List.{flat_map}
 use Rattle.ordered.specs.Lists.{items_in}
 use Rattle.store.specs.Lists.{any, all}
 use Rattle.store.specs.Rows.{same_row}
-use Rattle.store.specs.Signs.{compares}
+use Rattle.store.specs.Sides.{holds_by}
+use Rattle.store.specs.declared.comparison.Comparison.{Comparison}
 use Rattle.store.specs.declared.row.Row.{Row}
 use Rattle.rules.specs.Sets.{among, distinct, same_rows}
-use Rattle.rules.specs.declared.rule.Side.{Side}
-use Rattle.rules.specs.declared.rule.Side.TheVariants.{Column, Constant}
-use Rattle.rules.specs.declared.rule.Comparison.{Comparison}
+use Rattle.rules.specs.declared.rule.AtomColumn.{AtomColumn}
 use Rattle.rules.specs.declared.rule.Rule.{Rule}
 
 -- a rule as it is meant: a relation for each atom, and the comparisons (a denial constraint)
 pub record Denial : Type 0 where
   pub atoms : List ℕ
-  pub comparisons : List Comparison
+  pub comparisons : List (Comparison AtomColumn)
 
 -- the rule that the two lists hold
 abbrev pub denial : Rule → Denial
 denial rule = record { atoms = items_in rule.atoms; comparisons = items_in rule.comparisons }
 
--- the number that a side stands for, when a row is chosen for each atom
-abbrev pub side_of : List Row → Side → ℕ
-side_of chosen (Column atom column) = slice_index (slice_index_or (map (λ r. r.columns) chosen) atom []) column
-side_of chosen (Constant n) = n
+-- the number in a column, when a row is chosen for each atom
+abbrev pub column_of : List Row → AtomColumn → ℕ
+column_of chosen c = slice_index (slice_index_or (map (λ r. r.columns) chosen) c.atom []) c.column
 
 -- the comparison holds of the chosen rows
-abbrev pub satisfied : List Row → Comparison → Bool
-satisfied chosen c = compares c.sign (side_of chosen c.left) (side_of chosen c.right)
+abbrev pub satisfied : List Row → Comparison AtomColumn → Bool
+satisfied chosen c = holds_by (column_of chosen) c
 
 -- there is one row for each atom, of that atom's relation
 abbrev pub of_relations : List ℕ → List Row → Bool

@@ -20,5 +20,5 @@ pub use list::Conflicts;
 pub use ordered::Full;
 pub use refusal::Refusal;
 pub use rule::check::check_rule;
-pub use rule::{Comparison, Rule, Side};
+pub use rule::{AtomColumn, Comparison, Rule, Side};
 pub use upkeep::{add_place, add_rule, remove_place};

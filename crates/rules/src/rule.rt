@@ -5,25 +5,22 @@ ghost use Rattle.store.specs.Lists.{all};
 ghost use Rattle.rules.specs.Comparisons.{within};
 
 use ordered::Few;
-use store::Sign;
 
 pub mod blank;
 pub mod check;
 pub mod fit;
 
-// One side of a comparison: a column of the row that is chosen for an atom, or a constant.
+// A column of the row that is chosen for an atom.
 #[derive(Clone, Copy)]
-pub enum Side {
-    Column { atom: u8, column: u8 },
-    Constant(u32),
+pub struct AtomColumn {
+    pub atom: u8,
+    pub column: u8,
 }
 
-#[derive(Clone, Copy)]
-pub struct Comparison {
-    pub left: Side,
-    pub sign: Sign,
-    pub right: Side,
-}
+// One side of a comparison: such a column, or a constant.
+pub type Side = store::Side<AtomColumn>;
+
+pub type Comparison = store::Comparison<AtomColumn>;
 
 // One to three atoms, each a relation number, and up to six comparisons.
 #[derive(Clone, Copy)]

@@ -1,6 +1,7 @@
 pub mod Lists
 pub mod Rows
 pub mod Signs
+pub mod Sides
 pub mod Refusals
 pub mod Places
 pub mod Store

@@ -6,6 +6,7 @@
 
 mod admission;
 mod arity;
+mod comparison;
 mod refusal;
 mod row;
 mod sign;
@@ -14,6 +15,7 @@ mod table;
 
 pub use admission::place_for;
 pub use arity::{arity_in, declared, zero_from};
+pub use comparison::{Comparison, Side};
 pub use refusal::Refusal;
 pub use row::Row;
 pub use sign::Sign;

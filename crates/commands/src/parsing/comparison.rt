@@ -2,7 +2,7 @@
 ghost use Rattle.std.specs.Prelude.{◌≡◌};
 ghost use Rattle.commands.specs.Comparisons.{sign_of, atom_side, comparison_of};
 
-use rules::{Comparison, Side};
+use rules::{AtomColumn, Comparison, Side};
 use store::Sign;
 use words::halves::halves;
 use words::{Separator, number};
@@ -25,10 +25,10 @@ fn atom_side(text: &[u8]) -> Option<Side>
     ensures { result ≡ atom_side text.now }
 {
     match text {
-        [b'a', atom @ b'0'..=b'9', b'.', column @ b'0'..=b'9'] => Some(Side::Column {
+        [b'a', atom @ b'0'..=b'9', b'.', column @ b'0'..=b'9'] => Some(Side::Column(AtomColumn {
             atom: *atom - b'0',
             column: *column - b'0',
-        }),
+        })),
         _ => number(text).map(Side::Constant),
     }
 }

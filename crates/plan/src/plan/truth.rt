@@ -47,12 +47,9 @@ impl Plan {
     {
         match self.steps.as_slice()[k].node {
             Node::Leaf { .. } => false,
-            Node::Choice {
-                node,
-                left,
-                sign,
-                right,
-            } => truths[node as usize] && is_chosen(self.part(k, line), left, sign, right),
+            Node::Choice { node, comparison } => {
+                truths[node as usize] && is_chosen(self.part(k, line), &comparison)
+            }
             Node::Pair { op, left, right } => combine(
                 op,
                 truths[left as usize],

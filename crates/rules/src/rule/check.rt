@@ -1,7 +1,7 @@
 // Making a rule of what a caller gives, if it is one.
 ghost use Rattle.rules.specs.Refusals.{CheckSays};
 
-use super::{Comparison, Rule, Side};
+use super::{AtomColumn, Comparison, Rule};
 use crate::refusal::Refusal;
 use ordered::Few;
 use store::Source;
@@ -40,7 +40,7 @@ struct Draft<'a, S> {
 
 impl<S: Source> Draft<'_, S> {
     ghost use Rattle.std.specs.Prelude.{◌≡◌};
-    ghost use Rattle.rules.specs.Refusals.{FailSays, is_declared, names, side_names};
+    ghost use Rattle.rules.specs.Refusals.{FailSays, is_declared, names, column_named};
 
     // The first atom whose relation is not declared.
     fn first_undeclared(&self) -> Option<usize>
@@ -64,19 +64,15 @@ impl<S: Source> Draft<'_, S> {
     fn names_columns(&self, comparison: &Comparison) -> bool
         ensures { result ≡ names (S.Source.model self.now.source.now).arity self.now.atoms.now comparison.now }
     {
-        self.names_side(comparison.left) && self.names_side(comparison.right)
+        comparison.all_columns(|column| self.has_column(column))
     }
 
-    // Whether a side is a constant, or a column of one of the atoms that its relation has.
-    fn names_side(&self, side: Side) -> bool
-        ensures { result ≡ side_names (S.Source.model self.now.source.now).arity self.now.atoms.now side }
+    // Whether a column is one of an atom of the rule that the atom's relation has.
+    fn has_column(&self, column: AtomColumn) -> bool
+        ensures { result ≡ column_named (S.Source.model self.now.source.now).arity self.now.atoms.now column }
     {
-        match side {
-            Side::Column { atom, column } => self
-                .atoms
-                .get(atom as usize)
-                .is_some_and(|relation| column < self.source.arity(*relation)),
-            Side::Constant(_) => true,
-        }
+        self.atoms
+            .get(column.atom as usize)
+            .is_some_and(|relation| column.column < self.source.arity(*relation))
     }
 }

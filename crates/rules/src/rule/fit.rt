@@ -2,10 +2,10 @@
 ghost use Rattle.std.specs.Prelude.{◌≡◌, true, length, map};
 ghost use Rattle.store.specs.Lists.{all};
 ghost use Rattle.rules.specs.Beginnings.{holds_at_last, rows_of_picks};
-ghost use Rattle.rules.specs.Comparisons.{last_atom, side_atom, side_within, within};
-ghost use Rattle.rules.specs.Rules.{denial, satisfied, side_of};
+ghost use Rattle.rules.specs.Comparisons.{column_within, last_atom, side_atom, within};
+ghost use Rattle.rules.specs.Rules.{column_of, denial, satisfied};
 
-use super::{Comparison, Rule, Side};
+use super::{AtomColumn, Comparison, Rule, Side};
 use crate::chosen::Pick;
 
 impl Rule {
@@ -23,56 +23,47 @@ impl Rule {
         self.comparisons
             .as_slice()
             .iter()
-            .all(|comparison| comparison.holds_if_last(picks))
+            .all(|comparison| holds_if_last(comparison, picks))
     }
 }
 
-impl Comparison {
-    // Whether it holds, if it waited for the last of these rows.
-    fn holds_if_last(&self, picks: &[Pick]) -> bool
-        requires { within 3 self.now ≡ true }
-        ensures { result ≡ holds_at_last (rows_of_picks picks.now) self.now }
-    {
-        self.last_atom() as usize + 1 != picks.len() || self.holds(picks)
-    }
+// Whether a comparison holds, if it waited for the last of these rows.
+fn holds_if_last(comparison: &Comparison, picks: &[Pick]) -> bool
+    requires { within 3 comparison.now ≡ true }
+    ensures { result ≡ holds_at_last (rows_of_picks picks.now) comparison.now }
+{
+    last_atom(comparison) as usize + 1 != picks.len() || holds(comparison, picks)
+}
 
-    // The atom that it waits for.
-    fn last_atom(&self) -> u8
-        ensures { result ≡ last_atom self.now }
-    {
-        self.left.atom().max(self.right.atom())
-    }
+// The atom that a comparison waits for.
+fn last_atom(comparison: &Comparison) -> u8
+    ensures { result ≡ last_atom comparison.now }
+{
+    side_atom(comparison.left).max(side_atom(comparison.right))
+}
 
-    // Whether it holds of rows that it names.
-    fn holds(&self, picks: &[Pick]) -> bool
-        requires { within (length picks.now) self.now ≡ true }
-        ensures { result ≡ satisfied (rows_of_picks picks.now) self.now }
-    {
-        let left = self.left.value(picks);
-        let right = self.right.value(picks);
-        self.sign.holds(left, right)
+// The atom of a side's column; a constant's counts as the first.
+fn side_atom(side: Side) -> u8
+    ensures { result ≡ side_atom side }
+{
+    match side {
+        Side::Column(column) => column.atom,
+        Side::Constant(_) => 0,
     }
 }
 
-impl Side {
-    // The atom of a column; a constant's counts as the first.
-    fn atom(self) -> u8
-        ensures { result ≡ side_atom self }
-    {
-        match self {
-            Side::Column { atom, column: _ } => atom,
-            Side::Constant(_) => 0,
-        }
-    }
+// Whether a comparison holds of rows that it names.
+fn holds(comparison: &Comparison, picks: &[Pick]) -> bool
+    requires { within (length picks.now) comparison.now ≡ true }
+    ensures { result ≡ satisfied (rows_of_picks picks.now) comparison.now }
+{
+    comparison.holds(|column| column_of(picks, column))
+}
 
-    // The number that it stands for.
-    fn value(self, picks: &[Pick]) -> u32
-        requires { side_within (length picks.now) self ≡ true }
-        ensures { result ≡ side_of (rows_of_picks picks.now) self }
-    {
-        match self {
-            Side::Column { atom, column } => picks[atom as usize].row.columns[column as usize],
-            Side::Constant(n) => n,
-        }
-    }
+// The number in a column of the row for its atom.
+fn column_of(picks: &[Pick], column: AtomColumn) -> u32
+    requires { column_within (length picks.now) column ≡ true }
+    ensures { result ≡ column_of (rows_of_picks picks.now) column }
+{
+    picks[column.atom as usize].row.columns[column.column as usize]
 }

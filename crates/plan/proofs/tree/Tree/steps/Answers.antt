@@ -22,7 +22,7 @@ loop-k-preserved-in-Choice c =
     let within : k < length nodes = omega arith in
     let long : length steps ≡ length nodes = sym (length-map steps (λ s. s.node)) ∙ ap length stand in
     let start : (get_or c.as_slice.result.now k none).start ≡ get_or (starts_in steps) k 0 = part_read (λ s. s.start) steps _ c.as_slice.ensures.items k none 0 (omega arith) in
-    let done = choice_step nodes tree.early tree.once (widths_in steps) wide k within (starts_in steps) (subst (λ n. Inv nodes (widths_in steps) n (starts_in steps)) up inv) _ _ _ _ c.in-Choice.is in
+    let done = choice_step nodes tree.early tree.once (widths_in steps) wide k within (starts_in steps) (subst (λ n. Inv nodes (widths_in steps) n (starts_in steps)) up inv) _ _ c.in-Choice.is in
     (omega arith, c.begin_at.ensures.nodes ∙ stand, rw c.begin_at.ensures.widths wide, rw (c.begin_at.ensures.widths, c.begin_at.ensures.starts, start) done)
 
 pub right_start-requires : goal.right_start-requires
