@@ -1,4 +1,4 @@
-use Rattle.std.proofs.Common.{◌≡◌, Err, None, sym, ap, ◌∙◌, subst, rules}
+use Rattle.std.proofs.Common.{◌≡◌, None, sym, ap, ◌∙◌, subst, rules}
 use Rattle.store.proofs.Handed.{handed_on}
 use Rattle.store.specs.Store.{Store, put_refusal}
 use Rattle.page.specs.Checks.{check_refusal}
