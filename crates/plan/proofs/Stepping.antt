@@ -3,7 +3,6 @@ use Rattle.std.proofs.Common.{◌≡◌, ℕ, ◌+◌, ◌<◌, List, [], ◌∷
 use lib.ListN.{length-map}
 use Rattle.std.proofs.lemmas.List.{get_or-map, map-append, take_more}
 use Rattle.plan.specs.Steps.{nodes_in}
-use Rattle.plan.specs.declared.node.Node.{Node}
 use Rattle.plan.specs.declared.step.Step.{Step}
 
 pub as_many : (steps : List Step) → length steps ≡ length (nodes_in steps)

@@ -28,6 +28,7 @@ impl Tree<'_> {
         ensures { MatchResult result (λ steps. Laid self.now.nodes.now (items_in steps)) (λ k. Spots (unfit_at self.now.nodes.now) (length self.now.nodes.now) (Some k)) }
     {
         let mut steps = self.measure()?;
+        // Tried with `self.nodes.iter().enumerate().rev()`: the invariant has no index there, and the proof did not close.
         for k in (0..self.nodes.len()).rev() {
             let start = steps.as_slice()[k].start;
             match self.nodes[k] {

@@ -1,7 +1,6 @@
-use Rattle.std.proofs.Common.{◌≡◌, ◌+◌, ◌-◌, ◌<◌, ◌≤◌, length, get_or, set, sym, ap, ◌∙◌, subst, arith}
+use Rattle.std.proofs.Common.{◌≡◌, ◌+◌, ◌-◌, ◌<◌, length, get_or, ap, ◌∙◌, subst, arith}
 use Rattle.ordered.specs.Lists.{items_in}
 use Rattle.plan.specs.Nodes.{blank}
-use Rattle.plan.specs.Parts.{right_start}
 use Rattle.plan.specs.Steps.{widths_in, starts_in}
 use Rattle.plan.specs.declared.step.Step.{Step}
 use Rattle.plan.proofs.Measures.{pair_fits}
