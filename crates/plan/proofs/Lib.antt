@@ -5,7 +5,6 @@ pub mod Past
 pub mod Standing
 pub mod Grown
 pub mod Measures
-pub mod Writes
 pub mod Offsetting
 pub mod Stepping
 pub mod Asked

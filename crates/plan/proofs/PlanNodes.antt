@@ -1,7 +1,5 @@
 -- What a plan keeps of its nodes, one by one.
-use Rattle.std.proofs.Common.{◌≡◌, ℕ, ◌+◌, ◌<◌, ◌≤◌, ap, true, List, length, get_or, drop, subst, arith, length-drop, length-take-le, sym, ◌∙◌}
-use lib.ListN.{length-map}
-use Rattle.std.proofs.lemmas.List.{get_or-map}
+use Rattle.std.proofs.Common.{◌≡◌, ℕ, ◌+◌, ◌<◌, ◌≤◌, ap, true, ◌&&◌, List, length, get_or, drop, subst, arith, length-drop, length-take-le}
 use Rattle.ordered.specs.Lists.{items_in}
 use Rattle.plan.specs.Answers.{width_by}
 use Rattle.plan.specs.Filling.{inside, alike}
@@ -19,22 +17,23 @@ use Rattle.plan.specs.declared.step.Step.{Step}
 use Rattle.plan.specs.declared.plan.Plan.{Plan}
 use Rattle.plan.proofs.Measures.{leaf_wide, choice_fits, pair_fits}
 use Rattle.plan.proofs.Offsetting.{Passes, passes_to}
+use Rattle.plan.proofs.Stepping.{as_many, part_read}
 
 -- the steps as they are read, and what is said of them by their nodes, their widths and their starts
 module _ (plan : Plan) where
   pub steps_long : length (items_in plan.steps) ≡ length (nodes_of plan)
-  steps_long = sym (length-map (items_in plan.steps) (λ step. step.node))
+  steps_long = as_many (items_in plan.steps)
 
   module _ (steps : List Step) (e : steps ≡ items_in plan.steps) (k : ℕ) (d : Step) (h : k < length steps) where
     pub step_node : (get_or steps k d).node ≡ get_or (nodes_of plan) k blank
-    step_node = ap (λ ss. (get_or ss k d).node) e ∙ sym (get_or-map (λ step. step.node) (items_in plan.steps) k d blank (omega (arith, ap length e)))
+    step_node = part_read (λ step. step.node) (items_in plan.steps) steps e k d blank (omega (arith, ap length e, steps_long))
 
     pub step_room : (get_or steps k d).start + (get_or steps k d).width ≤ 8
     step_room =
-        let inside : k < length (items_in plan.steps) = omega (arith, ap length e) in
-        let start : (get_or steps k d).start ≡ get_or (starts_of plan) k 0 = ap (λ ss. (get_or ss k d).start) e ∙ sym (get_or-map (λ step. step.start) (items_in plan.steps) k d 0 inside) in
-        let width : (get_or steps k d).width ≡ get_or (widths_of plan) k 0 = ap (λ ss. (get_or ss k d).width) e ∙ sym (get_or-map (λ step. step.width) (items_in plan.steps) k d 0 inside) in
-        omega (arith, plan.room k (omega (arith, steps_long)))
+        let inside : k < length (nodes_of plan) = omega (arith, ap length e, steps_long) in
+        let start : (get_or steps k d).start ≡ get_or (starts_of plan) k 0 = part_read (λ step. step.start) (items_in plan.steps) steps e k d 0 inside in
+        let width : (get_or steps k d).width ≡ get_or (widths_of plan) k 0 = part_read (λ step. step.width) (items_in plan.steps) steps e k d 0 inside in
+        omega (arith, plan.room k inside)
 
 module _ (plan : Plan) (k : ℕ) (within : k < length (nodes_of plan)) where
   pub part_long : (columns : List ℕ) → length columns ≡ 8 → length (part_at plan columns k) ≡ get_or (widths_of plan) k 0

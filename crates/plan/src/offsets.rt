@@ -23,11 +23,12 @@ fn right_start(op: Op, start: u8, left: u8) -> u8
 
 impl Tree<'_> {
     // Each node with its width and with where its line begins, or the first that does not fit. From the last node down each
-    // tells those that it names, and each node but the last is named by one later node.
+    // tells those that it names: each node but the last is named by one later node.
     pub fn steps(&self) -> Result<Few<Step, 16>, usize>
         ensures { MatchResult result (λ steps. Laid self.now.nodes.now (items_in steps)) (λ k. Spots (unfit_at self.now.nodes.now) (length self.now.nodes.now) (Some k)) }
     {
         let mut steps = self.measure()?;
+        // Tried with `self.nodes.iter().enumerate().rev()`: the invariant has no index there, and the proof did not close.
         for k in (0..self.nodes.len()).rev() {
             let start = steps.as_slice()[k].start;
             match self.nodes[k] {

@@ -1,11 +1,11 @@
 use Rattle.std.proofs.Common.{◌≡◌, ℕ, ◌-◌, ◌<◌, ◌≤◌, false, List, length, sym, ap, ◌∙◌, subst, rules, arith}
-use Rattle.plan.specs.Filling.{Earlier, late_at, stray_at, poor_at, unfit_at, first}
+use Rattle.plan.specs.Filling.{Earlier, late_at, stray_at, unfit_at, first}
 use Rattle.plan.specs.Gathering.{leaves_of, Gathered}
 use Rattle.plan.specs.Steps.{Laid}
 use Rattle.plan.specs.declared.node.Node.{Node}
 use Rattle.ordered.specs.Lists.{items_in}
 use Rattle.plan.proofs.Asked.{granted}
-use Rattle.plan.proofs.Firsts.{before_first, first_none}
+use Rattle.plan.proofs.Firsts.{first_none}
 use Rattle.plan.proofs.Tried.{went_on}
 use Rattle.plan.proofs.plan.fill.plan_of.Goals as goal
 use Rattle.plan.proofs.plan.fill.plan_of.Goals.{In_ok-tree, In_ok-leaves, In_ok-steps}

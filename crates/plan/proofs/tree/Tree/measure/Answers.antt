@@ -5,7 +5,7 @@ use Rattle.std.proofs.lemmas.List.Elements.{All-push}
 use Rattle.std.specs.List.{All}
 use Rattle.ordered.specs.Lists.{items_in}
 use Rattle.plan.specs.Nodes.{blank, grown}
-use Rattle.plan.specs.Answers.{width_of, width_at}
+use Rattle.plan.specs.Answers.{width_of}
 use Rattle.plan.specs.Filling.{sides_fit, unfit_at}
 use Rattle.plan.specs.Steps.{nodes_in, widths_in, starts_in}
 use Rattle.plan.proofs.Firsts.{spots_at}
