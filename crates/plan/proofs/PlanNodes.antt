@@ -1,5 +1,5 @@
 -- What a plan keeps of its nodes, one by one.
-use Rattle.std.proofs.Common.{◌≡◌, ℕ, ◌+◌, ◌<◌, ◌≤◌, ap, true, ◌&&◌, List, length, get_or, drop, subst, arith, length-drop, length-take-le}
+use Rattle.std.proofs.Common.{◌≡◌, ℕ, ◌+◌, ◌<◌, ◌≤◌, ap, true, List, length, get_or, drop, subst, arith, length-drop, length-take-le}
 use Rattle.ordered.specs.Lists.{items_in}
 use Rattle.plan.specs.Answers.{width_by}
 use Rattle.plan.specs.Filling.{inside, alike}
