@@ -1,24 +1,13 @@
 // Plain answers: what holds over all rows held, whether they contradict each other or not.
-ghost use Rattle.std.specs.Prelude.{◌≡◌, None, replicate};
+ghost use Rattle.std.specs.Prelude.{◌≡◌, None};
 ghost use Rattle.plan.specs.Filling.{fill_refusal};
 ghost use Rattle.plan.specs.Plans.{nodes_of};
 
 use crate::desk::open_desk;
 use crate::telling;
-use plan::{Field, Line, Node, Op, Plan};
+use plan::{Line, Node, Op, Plan};
 use rink::row;
 use std::io;
-
-// Every row of a relation, as lines of this many columns.
-fn open(relation: u16, arity: u8) -> Node
-    ensures { result ≡ Node.Leaf relation arity (replicate 4 Field.Open) }
-{
-    Node::Leaf {
-        relation,
-        arity,
-        fields: [Field::Open; 4],
-    }
-}
 
 // The pair of the first two nodes.
 fn pair(op: Op) -> Node
@@ -31,10 +20,9 @@ fn pair(op: Op) -> Node
     }
 }
 
-// The plan of these nodes, which make one.
+// The plan of these nodes, where they make one.
 fn plan_of(nodes: &[Node]) -> Plan
-    requires { fill_refusal nodes.now ≡ None }
-    ensures { nodes_of result ≡ nodes.now }
+    ensures { fill_refusal nodes.now ≡ None → nodes_of result ≡ nodes.now }
 {
     let mut plan = Plan::new();
     let _ = plan.fill(nodes);
@@ -43,7 +31,7 @@ fn plan_of(nodes: &[Node]) -> Plan
 
 // Relation 0 at this pad and slot, but not relation 1.
 fn ice_not_held() -> Plan {
-    plan_of(&[open(0, 2), open(1, 2), pair(Op::Difference)])
+    plan_of(&[Node::open(0, 2), Node::open(1, 2), pair(Op::Difference)])
 }
 
 fn told(rt: &HostRuntime, shown: &str, answer: Result<bool, book::Refusal>) -> io::Result<()> {
@@ -63,7 +51,7 @@ pub(crate) fn answers(rt: &HostRuntime) -> io::Result<()> {
     told(
         rt,
         "plainly ice",
-        desk.plain(&plan_of(&[open(0, 2)]), &there),
+        desk.plain(&plan_of(&[Node::open(0, 2)]), &there),
     )?;
     told(
         rt,
@@ -75,7 +63,7 @@ pub(crate) fn answers(rt: &HostRuntime) -> io::Result<()> {
     told(
         rt,
         "plainly ice",
-        desk.plain(&plan_of(&[open(0, 2)]), &there),
+        desk.plain(&plan_of(&[Node::open(0, 2)]), &there),
     )?;
     told(
         rt,
@@ -89,8 +77,8 @@ pub(crate) fn wrong_arities(rt: &HostRuntime) -> io::Result<()> {
     let desk = open_desk();
     let line = Line { columns: [0; 8] };
     told(rt, "the plan at first", desk.plain(&Plan::new(), &line))?;
-    told(rt, "relation 9", desk.plain(&plan_of(&[open(9, 2)]), &line))?;
-    let second = plan_of(&[open(0, 2), open(3, 2), pair(Op::Product)]);
+    told(rt, "relation 9", desk.plain(&plan_of(&[Node::open(9, 2)]), &line))?;
+    let second = plan_of(&[Node::open(0, 2), Node::open(3, 2), pair(Op::Product)]);
     told(
         rt,
         "relation 3 of arity 2, after relation 0",
@@ -101,7 +89,7 @@ pub(crate) fn wrong_arities(rt: &HostRuntime) -> io::Result<()> {
 // A line of three columns, and then a number that is not zero.
 pub(crate) fn wrong_lines(rt: &HostRuntime) -> io::Result<()> {
     let desk = open_desk();
-    let plan = plan_of(&[open(3, 3)]);
+    let plan = plan_of(&[Node::open(3, 3)]);
     for column in 3..8usize {
         let mut columns = [0; 8];
         columns[column] = 1;

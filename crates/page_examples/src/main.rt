@@ -6,31 +6,24 @@ mod showing;
 
 use entering::{Hindrance, enter};
 use page::{Page, write_page};
+use rink::row;
 use showing::{show_bytes, show_check, show_rows, tell};
 use std::io;
 use store::{Row, Source};
-
-// A row of two columns.
-fn pair(relation: u16, first: u32, second: u32) -> Row {
-    Row {
-        relation,
-        columns: [first, second, 0, 0],
-    }
-}
 
 // Puts and strikes rows, and tells what the page answered.
 fn change(rt: &HostRuntime, arities: &[u8], bytes: &mut [u8]) -> io::Result<()> {
     let mut page = Page::open(arities, bytes);
     for (asked, row) in [
-        ("put 0: 7 258", pair(0, 7, 258)),
-        ("put 1: 4294967295", pair(1, 4294967295, 0)),
-        ("put 0: 7 258", pair(0, 7, 258)),
-        ("put 1: 5 6", pair(1, 5, 6)),
-        ("put 2: 5 6", pair(2, 5, 6)),
+        ("put 0: 7 258", row(0, 7, 258)),
+        ("put 1: 4294967295", row(1, 4294967295, 0)),
+        ("put 0: 7 258", row(0, 7, 258)),
+        ("put 1: 5 6", row(1, 5, 6)),
+        ("put 2: 5 6", row(2, 5, 6)),
     ] {
         tell(rt, asked, page.put(&row).map_err(Hindrance::from))?;
     }
-    for row in [pair(0, 7, 258); 2] {
+    for row in [row(0, 7, 258); 2] {
         tell(
             rt,
             "strike 0: 7 258",
@@ -43,10 +36,10 @@ fn change(rt: &HostRuntime, arities: &[u8], bytes: &mut [u8]) -> io::Result<()> 
 // Puts rows by a call that takes the bytes.
 fn fill(rt: &HostRuntime, arities: &[u8], bytes: &mut [u8]) -> io::Result<()> {
     for (asked, row) in [
-        ("enter 0: 1 2", pair(0, 1, 2)),
-        ("enter 0: 1 2", pair(0, 1, 2)),
-        ("enter 3: 8 8", pair(3, 8, 8)),
-        ("enter 0: 1 3", pair(0, 1, 3)),
+        ("enter 0: 1 2", row(0, 1, 2)),
+        ("enter 0: 1 2", row(0, 1, 2)),
+        ("enter 3: 8 8", row(3, 8, 8)),
+        ("enter 0: 1 3", row(0, 1, 3)),
     ] {
         tell(rt, asked, enter(arities, bytes, &row))?;
     }
@@ -68,7 +61,7 @@ fn main(rt: HostRuntime) -> io::Result<()> {
     show_rows(&rt, &arities, &mut bytes)?;
     bytes[41] = 0;
     show_check(&rt, &arities, &bytes)?;
-    let told = enter(&arities, &mut bytes, &pair(0, 5, 5));
+    let told = enter(&arities, &mut bytes, &row(0, 5, 5));
     tell(&rt, "enter 0: 5 5", told)?;
     show_rows(&rt, &arities, &mut bytes)
 }

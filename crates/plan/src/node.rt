@@ -1,4 +1,5 @@
 // The nodes that a plan is made of.
+ghost use Rattle.std.specs.Prelude.{◌≡◌, replicate};
 
 // What a leaf asks of a column: nothing, so that it is part of the leaf's lines, or this constant.
 #[derive(Clone, Copy)]
@@ -42,4 +43,17 @@ pub enum Node {
         left: u8,
         right: u8,
     },
+}
+
+impl Node {
+    // A leaf of this arity with every column open.
+    pub fn open(relation: u16, arity: u8) -> Node
+        ensures { result ≡ Node.Leaf relation arity (replicate 4 Field.Open) }
+    {
+        Node::Leaf {
+            relation,
+            arity,
+            fields: [Field::Open; 4],
+        }
+    }
 }

@@ -2,15 +2,9 @@
 use crate::answers::is_answer;
 use crate::nodes::*;
 use plan::{Line, Node, Op, Plan, Side};
+use rink::row;
 use std::io;
 use store::{Row, Sign};
-
-fn row(relation: u16, a: u32, b: u32) -> Row {
-    Row {
-        relation,
-        columns: [a, b, 0, 0],
-    }
-}
 
 // Relation 1 says who skates in which hall, relation 2 which halls are open; relation 3 has pairs of numbers.
 fn rows() -> [Row; 8] {
@@ -52,21 +46,21 @@ pub(crate) fn leaves_and_choices(rt: &HostRuntime) -> io::Result<()> {
     ask(
         rt,
         "leaf",
-        &[open(1, 2)],
+        &[Node::open(1, 2)],
         [2, 8, 0, 0, 0, 0, 0, 0],
         [1, 8, 0, 0, 0, 0, 0, 0],
     )?;
     ask(
         rt,
         "a column past the width",
-        &[open(1, 2)],
+        &[Node::open(1, 2)],
         [2, 8, 0, 0, 0, 0, 0, 0],
         [2, 8, 0, 0, 0, 0, 0, 1],
     )?;
     ask(
         rt,
         "a row with more columns",
-        &[open(2, 1)],
+        &[Node::open(2, 1)],
         [7, 0, 0, 0, 0, 0, 0, 0],
         [9, 0, 0, 0, 0, 0, 0, 0],
     )?;
@@ -80,14 +74,14 @@ pub(crate) fn leaves_and_choices(rt: &HostRuntime) -> io::Result<()> {
     ask(
         rt,
         "equal columns",
-        &[open(3, 2), choice(0, zero, Sign::Equal, one)],
+        &[Node::open(3, 2), choice(0, zero, Sign::Equal, one)],
         [5, 5, 0, 0, 0, 0, 0, 0],
         [5, 6, 0, 0, 0, 0, 0, 0],
     )?;
     ask(
         rt,
         "unequal columns",
-        &[open(3, 2), choice(0, zero, Sign::Unequal, one)],
+        &[Node::open(3, 2), choice(0, zero, Sign::Unequal, one)],
         [5, 5, 0, 0, 0, 0, 0, 0],
         [5, 6, 0, 0, 0, 0, 0, 0],
     )?;
@@ -95,7 +89,7 @@ pub(crate) fn leaves_and_choices(rt: &HostRuntime) -> io::Result<()> {
         rt,
         "column and constant",
         &[
-            open(1, 2),
+            Node::open(1, 2),
             choice(0, zero, Sign::Greater, Side::Constant(1)),
         ],
         [1, 7, 0, 0, 0, 0, 0, 0],
@@ -105,7 +99,7 @@ pub(crate) fn leaves_and_choices(rt: &HostRuntime) -> io::Result<()> {
         rt,
         "two constants",
         &[
-            open(1, 2),
+            Node::open(1, 2),
             choice(0, Side::Constant(2), Sign::Less, Side::Constant(1)),
         ],
         [1, 7, 0, 0, 0, 0, 0, 0],
@@ -116,7 +110,7 @@ pub(crate) fn leaves_and_choices(rt: &HostRuntime) -> io::Result<()> {
 // Pairs, and the leaf that a plan is at first.
 pub(crate) fn pairs(rt: &HostRuntime) -> io::Result<()> {
     let same_hall = choice(2, Side::Column(0), Sign::Equal, Side::Column(2));
-    let join = [open(2, 1), open(1, 2), pair(Op::Product, 0, 1), same_hall];
+    let join = [Node::open(2, 1), Node::open(1, 2), pair(Op::Product, 0, 1), same_hall];
     ask(
         rt,
         "skaters in open halls",
@@ -158,7 +152,7 @@ pub(crate) fn names(rt: &HostRuntime) -> io::Result<()> {
         columns: [7, 2, 8, 0, 0, 0, 0, 0],
     };
     if plan
-        .fill(&[open(2, 1), open(1, 2), pair(Op::Product, 0, 1)])
+        .fill(&[Node::open(2, 1), Node::open(1, 2), pair(Op::Product, 0, 1)])
         .is_err()
     {
         return println!(rt; "refused");

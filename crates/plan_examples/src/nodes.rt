@@ -1,15 +1,8 @@
 // Short words for nodes.
-ghost use Rattle.std.specs.Prelude.{◌≡◌, [], ◌∷◌, replicate};
+ghost use Rattle.std.specs.Prelude.{◌≡◌, [], ◌∷◌};
 
 use plan::{Comparison, Field, Node, Op, Side};
 use store::Sign;
-
-// A leaf of this arity with every column open.
-pub(crate) fn open(relation: u16, arity: u8) -> Node
-    ensures { result ≡ Node.Leaf relation arity (replicate 4 Field.Open) }
-{
-    leaf(relation, arity, [Field::Open; 4])
-}
 
 pub(crate) fn leaf(relation: u16, arity: u8, fields: [Field; 4]) -> Node
     ensures { result ≡ Node.Leaf relation arity fields }

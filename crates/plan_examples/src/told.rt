@@ -28,7 +28,7 @@ fn tell(rt: &HostRuntime, name: &str, nodes: &[Node]) -> io::Result<()> {
 // A leaf, and choices one over the other.
 fn tower() -> [Node; 16] {
     array::from_fn(|k| match k as u8 {
-        0 => open(0, 1),
+        0 => Node::open(0, 1),
         k => choice(k - 1, Side::Column(0), Sign::Greater, Side::Constant(0)),
     })
 }
@@ -36,7 +36,7 @@ fn tower() -> [Node; 16] {
 // Seven leaves, and the union of them all.
 fn seven() -> [Node; 13] {
     array::from_fn(|k| match k as u8 {
-        0..=6 => open(0, 1),
+        0..=6 => Node::open(0, 1),
         7 => pair(Op::Union, 0, 1),
         k => pair(Op::Union, k - 1, k - 6),
     })
@@ -44,24 +44,24 @@ fn seven() -> [Node; 13] {
 
 // Plans that are accepted.
 pub(crate) fn accepted(rt: &HostRuntime) -> io::Result<()> {
-    tell(rt, "open leaf of arity 1", &[open(0, 1)])?;
-    tell(rt, "open leaf of arity 2", &[open(0, 2)])?;
-    tell(rt, "open leaf of arity 3", &[open(0, 3)])?;
-    tell(rt, "open leaf of arity 4", &[open(0, 4)])?;
+    tell(rt, "open leaf of arity 1", &[Node::open(0, 1)])?;
+    tell(rt, "open leaf of arity 2", &[Node::open(0, 2)])?;
+    tell(rt, "open leaf of arity 3", &[Node::open(0, 3)])?;
+    tell(rt, "open leaf of arity 4", &[Node::open(0, 4)])?;
     tell(rt, "a leaf with a constant", &[second(1, 7)])?;
     tell(
         rt,
         "eight columns",
-        &[open(1, 4), open(2, 4), pair(Op::Product, 0, 1)],
+        &[Node::open(1, 4), Node::open(2, 4), pair(Op::Product, 0, 1)],
     )?;
     tell(rt, "sixteen nodes", &tower())?;
     let six = [
-        open(0, 1),
-        open(0, 1),
-        open(0, 1),
-        open(0, 1),
-        open(0, 1),
-        open(0, 1),
+        Node::open(0, 1),
+        Node::open(0, 1),
+        Node::open(0, 1),
+        Node::open(0, 1),
+        Node::open(0, 1),
+        Node::open(0, 1),
         pair(Op::Union, 0, 1),
         pair(Op::Union, 2, 3),
         pair(Op::Difference, 4, 5),
@@ -77,24 +77,24 @@ pub(crate) fn misnamed(rt: &HostRuntime) -> io::Result<()> {
     let one = Side::Constant(1);
     let over = choice(1, column, Sign::Equal, one);
     tell(rt, "no node", &[])?;
-    tell(rt, "seventeen nodes", &[open(0, 1); 17])?;
-    tell(rt, "a node that names itself", &[open(0, 1), over])?;
+    tell(rt, "seventeen nodes", &[Node::open(0, 1); 17])?;
+    tell(rt, "a node that names itself", &[Node::open(0, 1), over])?;
     tell(
         rt,
         "a node that names a later one",
-        &[open(0, 1), pair(Op::Product, 0, 2), open(0, 1)],
+        &[Node::open(0, 1), pair(Op::Product, 0, 2), Node::open(0, 1)],
     )?;
     tell(
         rt,
         "a node that none names",
-        &[open(0, 1), open(0, 1), over],
+        &[Node::open(0, 1), Node::open(0, 1), over],
     )?;
     tell(
         rt,
         "a node that is named twice",
         &[
-            open(0, 1),
-            open(0, 1),
+            Node::open(0, 1),
+            Node::open(0, 1),
             pair(Op::Product, 0, 1),
             pair(Op::Union, 1, 2),
         ],
@@ -102,7 +102,7 @@ pub(crate) fn misnamed(rt: &HostRuntime) -> io::Result<()> {
     tell(
         rt,
         "a late name counts before a stray node",
-        &[open(0, 1), open(0, 1), pair(Op::Union, 1, 2)],
+        &[Node::open(0, 1), Node::open(0, 1), pair(Op::Union, 1, 2)],
     )
 }
 
@@ -113,18 +113,18 @@ pub(crate) fn poor(rt: &HostRuntime) -> io::Result<()> {
         2,
         [Field::Fixed(1), Field::Fixed(2), Field::Open, Field::Open],
     );
-    tell(rt, "arity 0", &[open(0, 0)])?;
+    tell(rt, "arity 0", &[Node::open(0, 0)])?;
     tell(
         rt,
         "arity 5",
-        &[open(0, 1), open(0, 5), pair(Op::Union, 0, 1)],
+        &[Node::open(0, 1), Node::open(0, 5), pair(Op::Union, 0, 1)],
     )?;
     tell(
         rt,
         "no open column",
         &[
-            open(0, 1),
-            open(0, 1),
+            Node::open(0, 1),
+            Node::open(0, 1),
             shut,
             pair(Op::Union, 0, 1),
             pair(Op::Union, 2, 3),
@@ -134,7 +134,7 @@ pub(crate) fn poor(rt: &HostRuntime) -> io::Result<()> {
     tell(
         rt,
         "a leaf counts before a width",
-        &[open(0, 2), open(0, 0), pair(Op::Union, 0, 1)],
+        &[Node::open(0, 2), Node::open(0, 0), pair(Op::Union, 0, 1)],
     )
 }
 
@@ -146,31 +146,31 @@ pub(crate) fn unfit(rt: &HostRuntime) -> io::Result<()> {
     tell(
         rt,
         "a compared column that is not there",
-        &[open(0, 2), over],
+        &[Node::open(0, 2), over],
     )?;
     tell(
         rt,
         "a union of unequal widths",
-        &[open(0, 1), open(0, 2), pair(Op::Union, 0, 1)],
+        &[Node::open(0, 1), Node::open(0, 2), pair(Op::Union, 0, 1)],
     )?;
     tell(
         rt,
         "a difference of unequal widths",
-        &[open(0, 3), open(0, 2), pair(Op::Difference, 0, 1)],
+        &[Node::open(0, 3), Node::open(0, 2), pair(Op::Difference, 0, 1)],
     )?;
     let nine = [
-        open(0, 4),
-        open(0, 4),
+        Node::open(0, 4),
+        Node::open(0, 4),
         pair(Op::Product, 0, 1),
-        open(0, 1),
+        Node::open(0, 1),
         pair(Op::Product, 2, 3),
     ];
     tell(rt, "nine columns", &nine)?;
     let two = [
-        open(0, 1),
-        open(0, 2),
+        Node::open(0, 1),
+        Node::open(0, 2),
         pair(Op::Union, 0, 1),
-        open(0, 4),
+        Node::open(0, 4),
         pair(Op::Difference, 2, 3),
     ];
     tell(rt, "the first of two that fail", &two)

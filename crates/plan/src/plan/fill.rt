@@ -4,7 +4,7 @@ ghost use Rattle.plan.specs.Filling.{fill_refusal};
 ghost use Rattle.plan.specs.Plans.{nodes_of, first_nodes, FillSays};
 
 use super::Plan;
-use crate::node::{Field, Node};
+use crate::node::Node;
 use crate::nodes::Nodes;
 use crate::refusal::Refusal;
 
@@ -23,12 +23,7 @@ impl Plan {
     pub fn new() -> Plan
         ensures { nodes_of result ≡ first_nodes }
     {
-        let leaf = Node::Leaf {
-            relation: 0,
-            arity: 1,
-            fields: [Field::Open; 4],
-        };
-        plan_of(&[leaf]).unwrap()
+        plan_of(&[Node::open(0, 1)]).unwrap()
     }
 
     // Makes these nodes the plan; a refusal leaves it as it was.
