@@ -1,6 +1,6 @@
 // Entering an item into an ordered list.
 //
-// A slice and a count stand beside each other here, since the memory is the caller's, of any size.
+// A slice and a count: the memory is the caller's, of any size, and this is promised of any slice; `Few` is built on it.
 ghost use Rattle.std.specs.Prelude.{◌≡◌, ◌+◌, ◌<◌, ◌≤◌, length, take, drop, MatchResult};
 ghost use Rattle.std.specs.List.{insert};
 ghost use Rattle.ordered.specs.Promises.{Enters, Refuses};
@@ -19,9 +19,8 @@ pub fn enter<T: Ord + Copy>(items: &mut [T], count: usize, x: T) -> Result<usize
         (λ _. Refuses T.cmp x (take count items.old) items.old items.new) }
 {
     let count = count.min(items.len());
-    let place = match find(items, count, &x) {
-        Ok(_) => return Ok(count),
-        Err(place) => place,
+    let Err(place) = find(items, count, &x) else {
+        return Ok(count);
     };
     if count == items.len() {
         return Err(Full);

@@ -5,7 +5,8 @@ use crate::entry::{Full, enter};
 use crate::removal::retain;
 use std::alloc::AllocError;
 
-// Up to N items, in the first places of an array; what stands in the others is not looked at.
+// Up to N items, in the first places of an array; what stands in the others is not looked at. The kit's `ArrayVec` is not `Copy`
+// and wants a `Default` of its items: this one list serves values that are copied and values that are not.
 pub struct Few<T, const N: usize> {
     items: [T; N],
     count: usize,
@@ -13,7 +14,7 @@ pub struct Few<T, const N: usize> {
     ghost within: { count ≤ N },
 }
 
-// By hand, since `Clone` cannot be derived over ghost fields.
+// By hand: a derive over `T` would be for items that are not `Copy` too, and `Clone` alone cannot be derived over ghost fields.
 impl<T: Copy, const N: usize> Copy for Few<T, N> {}
 
 impl<T: Copy, const N: usize> Clone for Few<T, N> {

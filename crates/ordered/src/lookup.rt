@@ -1,11 +1,13 @@
 // Where an item stands in an ordered list.
+//
+// A slice and a count, as for entering: the memory is the caller's.
 ghost use Rattle.std.specs.Prelude.{take, MatchResult};
 ghost use Rattle.ordered.specs.Promises.{Stands, Belongs};
 
 use std::cmp::Ordering;
 
 // Where `x` stands among the first `count` items, which ascend, or else where it belongs.
-// The library's `binary_search` tells no `Err` of items that do not ascend, and this promises one of any.
+// By hand: the library's `binary_search` promises nothing of its `Err` unless the items ascend, and `Belongs` holds of any items.
 pub fn find<T: Ord>(items: &[T], count: usize, x: &T) -> Result<usize, usize>
     ensures { MatchResult result
         (Stands T.cmp (take count items.now) x.now)

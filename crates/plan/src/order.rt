@@ -37,8 +37,10 @@ impl<'a> Nodes<'a> {
     fn check_earlier(&self) -> Result<(), usize>
         ensures { MatchResult result (λ _. Spots (late_at self.now.nodes.now) (length self.now.nodes.now) None) (λ k. Spots (late_at self.now.nodes.now) (length self.now.nodes.now) (Some k)) }
     {
-        (0..self.nodes.len())
-            .find(|k| names_late(*k, self.nodes[*k]))
+        self.nodes
+            .iter()
+            .enumerate()
+            .position(|(k, node)| names_late(k, *node))
             .map_or(Ok(()), Err)
     }
 

@@ -12,10 +12,10 @@ use Rattle.ordered.proofs.entry.enter.Goals.{After-min-count}
 front : (g : given.Over) (c : After-min-count g) → take c.min-count.result c.args.items.now ≡ take c.args.count c.args.items.now
 front g c = take_capped _ _ c.args.items.now c.min-count.ensures
 
-pub returns-in-Ok : goal.returns-in-Ok
-returns-in-Ok g c = subst (λ l. Enters g.T.Ord.cmp c.args.x l c.args.items.now c.args.items.now c.min-count.result)
-    (front g (goal.at.returns-in-Ok g c).After-min-count)
-    (again g.met.T.Ord.total _ (omega arith) c.in-Ok.ensures)
+pub returns-in_default : goal.returns-in_default
+returns-in_default g c = subst (λ l. Enters g.T.Ord.cmp c.args.x l c.args.items.now c.args.items.now c.min-count.result)
+    (front g (goal.at.returns-in_default g c).After-min-count)
+    (again g.met.T.Ord.total _ (omega arith) c.in_default.ensures)
 
 pub returns-then-count-items : goal.returns-then-count-items
 returns-then-count-items g c = subst (λ l. Refuses g.T.Ord.cmp c.args.x l c.args.items.now c.args.items.now)
