@@ -9,29 +9,20 @@ use plan::{Line, Node, Op, Plan};
 use rink::row;
 use std::io;
 
-// The pair of the first two nodes.
-fn pair(op: Op) -> Node
-    ensures { result ≡ Node.Pair op 0 1 }
-{
-    Node::Pair {
-        op,
-        left: 0,
-        right: 1,
-    }
-}
-
 // The plan of these nodes, where they make one.
 fn plan_of(nodes: &[Node]) -> Plan
     ensures { fill_refusal nodes.now ≡ None → nodes_of result ≡ nodes.now }
 {
-    let mut plan = Plan::new();
-    let _ = plan.fill(nodes);
-    plan
+    Plan::of(nodes).unwrap_or(Plan::new())
 }
 
 // Relation 0 at this pad and slot, but not relation 1.
 fn ice_not_held() -> Plan {
-    plan_of(&[Node::open(0, 2), Node::open(1, 2), pair(Op::Difference)])
+    plan_of(&[
+        Node::open(0, 2),
+        Node::open(1, 2),
+        Node::pair(Op::Difference, 0, 1),
+    ])
 }
 
 fn told(rt: &HostRuntime, shown: &str, answer: Result<bool, book::Refusal>) -> io::Result<()> {
@@ -77,8 +68,16 @@ pub(crate) fn wrong_arities(rt: &HostRuntime) -> io::Result<()> {
     let desk = open_desk();
     let line = Line { columns: [0; 8] };
     told(rt, "the plan at first", desk.plain(&Plan::new(), &line))?;
-    told(rt, "relation 9", desk.plain(&plan_of(&[Node::open(9, 2)]), &line))?;
-    let second = plan_of(&[Node::open(0, 2), Node::open(3, 2), pair(Op::Product)]);
+    told(
+        rt,
+        "relation 9",
+        desk.plain(&plan_of(&[Node::open(9, 2)]), &line),
+    )?;
+    let second = plan_of(&[
+        Node::open(0, 2),
+        Node::open(3, 2),
+        Node::pair(Op::Product, 0, 1),
+    ]);
     told(
         rt,
         "relation 3 of arity 2, after relation 0",

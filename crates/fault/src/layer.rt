@@ -14,7 +14,7 @@ pub enum Layer {
     Book,
 }
 
-// The layer that a refusal's number belongs to. A function and no `From`: not every number is a refusal's.
+// The layer that a refusal's number belongs to. A function: `From<u8>` would be the same lines, with no name for what is asked.
 pub fn layer_of(number: u8) -> Layer
     ensures { result ≡ layer_of number }
 {

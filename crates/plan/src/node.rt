@@ -30,6 +30,7 @@ pub enum Node {
     // the rows of a relation that have the constants; the fields from the arity on are not looked at
     Leaf {
         relation: u16,
+        // any number can stand here: `fill` refuses what is no arity
         arity: u8,
         fields: [Field; 4],
     },
@@ -55,5 +56,12 @@ impl Node {
             arity,
             fields: [Field::Open; 4],
         }
+    }
+
+    // The pair of these two nodes.
+    pub fn pair(op: Op, left: u8, right: u8) -> Node
+        ensures { result ≡ Node.Pair op left right }
+    {
+        Node::Pair { op, left, right }
     }
 }

@@ -21,7 +21,7 @@ fn rows() -> [Row; 8] {
 }
 
 // Says of two lines whether they are answers of the plan. Each question is a call and no row of a table: a row would
-// take as many lines, and a type of its own.
+// take as many lines.
 fn ask(
     rt: &HostRuntime,
     name: &str,
@@ -29,10 +29,9 @@ fn ask(
     first: [u32; 8],
     second: [u32; 8],
 ) -> io::Result<()> {
-    let mut plan = Plan::new();
-    if plan.fill(nodes).is_err() {
+    let Ok(plan) = Plan::of(nodes) else {
         return println!(rt; "{name}: refused");
-    }
+    };
     let rows = rows();
     let a = is_answer(&plan, &rows, &Line { columns: first });
     let b = is_answer(&plan, &rows, &Line { columns: second });
@@ -110,7 +109,12 @@ pub(crate) fn leaves_and_choices(rt: &HostRuntime) -> io::Result<()> {
 // Pairs, and the leaf that a plan is at first.
 pub(crate) fn pairs(rt: &HostRuntime) -> io::Result<()> {
     let same_hall = choice(2, Side::Column(0), Sign::Equal, Side::Column(2));
-    let join = [Node::open(2, 1), Node::open(1, 2), pair(Op::Product, 0, 1), same_hall];
+    let join = [
+        Node::open(2, 1),
+        Node::open(1, 2),
+        Node::pair(Op::Product, 0, 1),
+        same_hall,
+    ];
     ask(
         rt,
         "skaters in open halls",
@@ -118,7 +122,7 @@ pub(crate) fn pairs(rt: &HostRuntime) -> io::Result<()> {
         [7, 2, 7, 0, 0, 0, 0, 0],
         [7, 2, 8, 0, 0, 0, 0, 0],
     )?;
-    let either = [second(1, 7), second(1, 8), pair(Op::Union, 0, 1)];
+    let either = [second(1, 7), second(1, 8), Node::pair(Op::Union, 0, 1)];
     ask(
         rt,
         "in hall 7 or 8",
@@ -126,7 +130,7 @@ pub(crate) fn pairs(rt: &HostRuntime) -> io::Result<()> {
         [1, 0, 0, 0, 0, 0, 0, 0],
         [3, 0, 0, 0, 0, 0, 0, 0],
     )?;
-    let only = [second(1, 7), second(1, 8), pair(Op::Difference, 0, 1)];
+    let only = [second(1, 7), second(1, 8), Node::pair(Op::Difference, 0, 1)];
     ask(
         rt,
         "in hall 7 and not in 8",
@@ -147,16 +151,17 @@ pub(crate) fn pairs(rt: &HostRuntime) -> io::Result<()> {
 
 // The leaves of a plan, and the row that a line names at each.
 pub(crate) fn names(rt: &HostRuntime) -> io::Result<()> {
-    let mut plan = Plan::new();
     let line = Line {
         columns: [7, 2, 8, 0, 0, 0, 0, 0],
     };
-    if plan
-        .fill(&[Node::open(2, 1), Node::open(1, 2), pair(Op::Product, 0, 1)])
-        .is_err()
-    {
+    let nodes = [
+        Node::open(2, 1),
+        Node::open(1, 2),
+        Node::pair(Op::Product, 0, 1),
+    ];
+    let Ok(plan) = Plan::of(&nodes) else {
         return println!(rt; "refused");
-    }
+    };
     for number in 0..3 {
         match (plan.leaf(number), plan.named(number, &line)) {
             (Some(leaf), Some(row)) => {

@@ -1,7 +1,7 @@
 // Short words for nodes.
 ghost use Rattle.std.specs.Prelude.{◌≡◌, [], ◌∷◌};
 
-use plan::{Comparison, Field, Node, Op, Side};
+use plan::{Comparison, Field, Node, Side};
 use store::Sign;
 
 pub(crate) fn leaf(relation: u16, arity: u8, fields: [Field; 4]) -> Node
@@ -27,10 +27,4 @@ pub(crate) fn choice(node: u8, left: Side, sign: Sign, right: Side) -> Node {
         node,
         comparison: Comparison { left, sign, right },
     }
-}
-
-pub(crate) fn pair(op: Op, left: u8, right: u8) -> Node
-    ensures { result ≡ Node.Pair op left right }
-{
-    Node::Pair { op, left, right }
 }

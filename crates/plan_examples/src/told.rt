@@ -7,9 +7,8 @@ use store::Sign;
 
 // Says how wide the plan of these nodes is, or why they make none.
 fn tell(rt: &HostRuntime, name: &str, nodes: &[Node]) -> io::Result<()> {
-    let mut plan = Plan::new();
-    match plan.fill(nodes) {
-        Ok(()) => {
+    match Plan::of(nodes) {
+        Ok(plan) => {
             let width = plan.width();
             let leaves = plan.leaves();
             println!(rt; "{name}: width {width}, leaves {leaves}")
@@ -37,8 +36,8 @@ fn tower() -> [Node; 16] {
 fn seven() -> [Node; 13] {
     array::from_fn(|k| match k as u8 {
         0..=6 => Node::open(0, 1),
-        7 => pair(Op::Union, 0, 1),
-        k => pair(Op::Union, k - 1, k - 6),
+        7 => Node::pair(Op::Union, 0, 1),
+        k => Node::pair(Op::Union, k - 1, k - 6),
     })
 }
 
@@ -52,7 +51,11 @@ pub(crate) fn accepted(rt: &HostRuntime) -> io::Result<()> {
     tell(
         rt,
         "eight columns",
-        &[Node::open(1, 4), Node::open(2, 4), pair(Op::Product, 0, 1)],
+        &[
+            Node::open(1, 4),
+            Node::open(2, 4),
+            Node::pair(Op::Product, 0, 1),
+        ],
     )?;
     tell(rt, "sixteen nodes", &tower())?;
     let six = [
@@ -62,11 +65,11 @@ pub(crate) fn accepted(rt: &HostRuntime) -> io::Result<()> {
         Node::open(0, 1),
         Node::open(0, 1),
         Node::open(0, 1),
-        pair(Op::Union, 0, 1),
-        pair(Op::Union, 2, 3),
-        pair(Op::Difference, 4, 5),
-        pair(Op::Product, 6, 7),
-        pair(Op::Product, 8, 9),
+        Node::pair(Op::Union, 0, 1),
+        Node::pair(Op::Union, 2, 3),
+        Node::pair(Op::Difference, 4, 5),
+        Node::pair(Op::Product, 6, 7),
+        Node::pair(Op::Product, 8, 9),
     ];
     tell(rt, "six leaves", &six)
 }
@@ -82,7 +85,11 @@ pub(crate) fn misnamed(rt: &HostRuntime) -> io::Result<()> {
     tell(
         rt,
         "a node that names a later one",
-        &[Node::open(0, 1), pair(Op::Product, 0, 2), Node::open(0, 1)],
+        &[
+            Node::open(0, 1),
+            Node::pair(Op::Product, 0, 2),
+            Node::open(0, 1),
+        ],
     )?;
     tell(
         rt,
@@ -95,14 +102,18 @@ pub(crate) fn misnamed(rt: &HostRuntime) -> io::Result<()> {
         &[
             Node::open(0, 1),
             Node::open(0, 1),
-            pair(Op::Product, 0, 1),
-            pair(Op::Union, 1, 2),
+            Node::pair(Op::Product, 0, 1),
+            Node::pair(Op::Union, 1, 2),
         ],
     )?;
     tell(
         rt,
         "a late name counts before a stray node",
-        &[Node::open(0, 1), Node::open(0, 1), pair(Op::Union, 1, 2)],
+        &[
+            Node::open(0, 1),
+            Node::open(0, 1),
+            Node::pair(Op::Union, 1, 2),
+        ],
     )
 }
 
@@ -117,7 +128,11 @@ pub(crate) fn poor(rt: &HostRuntime) -> io::Result<()> {
     tell(
         rt,
         "arity 5",
-        &[Node::open(0, 1), Node::open(0, 5), pair(Op::Union, 0, 1)],
+        &[
+            Node::open(0, 1),
+            Node::open(0, 5),
+            Node::pair(Op::Union, 0, 1),
+        ],
     )?;
     tell(
         rt,
@@ -126,15 +141,19 @@ pub(crate) fn poor(rt: &HostRuntime) -> io::Result<()> {
             Node::open(0, 1),
             Node::open(0, 1),
             shut,
-            pair(Op::Union, 0, 1),
-            pair(Op::Union, 2, 3),
+            Node::pair(Op::Union, 0, 1),
+            Node::pair(Op::Union, 2, 3),
         ],
     )?;
     tell(rt, "seven leaves", &seven())?;
     tell(
         rt,
         "a leaf counts before a width",
-        &[Node::open(0, 2), Node::open(0, 0), pair(Op::Union, 0, 1)],
+        &[
+            Node::open(0, 2),
+            Node::open(0, 0),
+            Node::pair(Op::Union, 0, 1),
+        ],
     )
 }
 
@@ -151,27 +170,35 @@ pub(crate) fn unfit(rt: &HostRuntime) -> io::Result<()> {
     tell(
         rt,
         "a union of unequal widths",
-        &[Node::open(0, 1), Node::open(0, 2), pair(Op::Union, 0, 1)],
+        &[
+            Node::open(0, 1),
+            Node::open(0, 2),
+            Node::pair(Op::Union, 0, 1),
+        ],
     )?;
     tell(
         rt,
         "a difference of unequal widths",
-        &[Node::open(0, 3), Node::open(0, 2), pair(Op::Difference, 0, 1)],
+        &[
+            Node::open(0, 3),
+            Node::open(0, 2),
+            Node::pair(Op::Difference, 0, 1),
+        ],
     )?;
     let nine = [
         Node::open(0, 4),
         Node::open(0, 4),
-        pair(Op::Product, 0, 1),
+        Node::pair(Op::Product, 0, 1),
         Node::open(0, 1),
-        pair(Op::Product, 2, 3),
+        Node::pair(Op::Product, 2, 3),
     ];
     tell(rt, "nine columns", &nine)?;
     let two = [
         Node::open(0, 1),
         Node::open(0, 2),
-        pair(Op::Union, 0, 1),
+        Node::pair(Op::Union, 0, 1),
         Node::open(0, 4),
-        pair(Op::Difference, 2, 3),
+        Node::pair(Op::Difference, 2, 3),
     ];
     tell(rt, "the first of two that fail", &two)
 }

@@ -45,7 +45,8 @@ impl Plan {
         self.leaf_list().get(number).copied()
     }
 
-    // The part of a line that is the line of the node at `k`.
+    // The part of a line that is the line of the node at `k`. A node stays a number with a bound, here and below: a type for it
+    // would have to borrow the plan.
     pub(super) fn part<'a>(&self, k: usize, line: &'a Line) -> &'a [u32]
         requires { k < length (nodes_of self.now) }
         ensures part { result.now ≡ part_at self.now line.now.columns k }
@@ -72,7 +73,8 @@ impl Plan {
         Some(self.row_at(&self.leaf(number)?, line))
     }
 
-    // Of each leaf, whether the row passes that a line names there.
+    // Of each leaf, whether the row passes that a line names there. Six by value: of those past the last leaf nothing is said, and
+    // `holds` looks at none of them.
     pub fn at_leaves<F: Fn(&Row) -> bool>(&self, line: &Line, passes: F) -> [bool; 6]
         requires { F.IsAlwaysCallable passes }
         ensures { (there : Row → Bool) → ((row : Row) (b : Bool) → FnReturnsAt F.Fn passes row b → b ≡ there row) → take (length (named_rows self.now line.now.columns)) result ≡ map there (named_rows self.now line.now.columns) }

@@ -7,8 +7,8 @@ use Rattle.ordered.specs.Lists.{items_in}
 use Rattle.plan.proofs.Asked.{granted}
 use Rattle.plan.proofs.Firsts.{first_none}
 use Rattle.plan.proofs.Tried.{went_on}
-use Rattle.plan.proofs.plan.fill.plan_of.Goals as goal
-use Rattle.plan.proofs.plan.fill.plan_of.Goals.{In_ok-tree, In_ok-leaves, In_ok-steps}
+use Rattle.plan.proofs.plan.Plan.of.Goals as goal
+use Rattle.plan.proofs.plan.Plan.of.Goals.{In_ok-tree, In_ok-leaves, In_ok-steps}
 
 abbrev Once : List Node → Type 0
 Once nodes = (c : ℕ) → c < length nodes - 1 → stray_at nodes c ≡ false
