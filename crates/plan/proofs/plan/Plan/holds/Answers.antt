@@ -26,13 +26,13 @@ told_next : (s t : Iter Bool) (r : Option (Bor Bool)) (v d : Bor Bool) → v ≡
 told_next s t None v d e f (none, same) = let n = nothing (iter_rest s) none in (ap (λ b. b.now) e ∙ f ∙ n.0, ap iter_rest same ∙ n.1)
 told_next s t (Some x) v d e f is = (ap (λ b. b.now) e ∙ sym (ap (λ xs. get_or xs 0 false) is), sym (ap (drop 1) is))
 
-pub truth_at-requires : goal.truth_at-requires
-truth_at-requires c =
+pub truth_at-requires-clause-earlier : goal.truth_at-requires-clause-earlier
+truth_at-requires-clause-earlier c =
     let plan = c.args.self.now in
+    let k = c.loop-k.k in
     let all = truths plan c.args.line.now.columns c.args.truth.now in
-    let within : c.loop-k.k < length (nodes_of plan) = omega (arith, ap length c.as_slice-step-items.ensures.items, steps_long plan) in
-    let long : length (take c.loop-k.k all) ≡ c.loop-k.k = length-take-le c.loop-k.k all (omega (arith, truths_long plan c.args.line.now.columns c.args.truth.now)) in
-    record { within = within; earlier = omega (arith, ap length c.as_slice.ensures.items, ap length c.loop-k.invariant.1) }
+    let long : length (take k all) ≡ k = length-take-le k all (omega (arith, truths_long plan c.args.line.now.columns c.args.truth.now, ap length c.as_slice-step-items.ensures.items, steps_long plan)) in
+    omega (arith, ap length c.as_slice.ensures.items, ap length c.loop-k.invariant.1)
 
 pub loop-k-preserved : goal.loop-k-preserved
 loop-k-preserved c =
