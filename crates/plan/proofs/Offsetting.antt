@@ -1,7 +1,7 @@
 -- The offsets, from the last node down.
 use Rattle.std.proofs.Common.{◌≡◌, ℕ, ◌+◌, ◌-◌, ◌<◌, ◌≤◌, true, false, cond, eqb, List, length, get_or, take, set, sum_by, sym, refl, ap, ◌∙◌, subst, inl, inr, arith, length-set, length-take-le, get_or-set_other, get_or-take, get_or-set_same}
 use Rattle.std.proofs.lemmas.List.Sums.{sum_by_more, sum_by-take-le, get_or-le-sum_by}
-use Rattle.std.proofs.lemmas.Bool.{eq-eqb, ne_eqb, eqb-true, leb-false, and_parts, and_from, not-false, cases_lt, cases_eq}
+use Rattle.std.proofs.lemmas.Bool.{eq-eqb, ne_eqb, eqb-true, leb-false, and_parts, not-false, cases_lt, cases_eq}
 use Rattle.plan.specs.Answers.{width_by}
 use Rattle.plan.specs.Filling.{Earlier, alike, stray_at}
 use Rattle.plan.specs.Nodes.{blank, late, namings}
@@ -38,12 +38,6 @@ passes_to ws os o (Choice node comparison) h = eqb-true (get_or os node 0) o h
 passes_to ws os o (Pair op left right) h =
     let (a, b) = and_parts (eqb (get_or os left 0) o) (eqb (get_or os right 0) (right_start op o (get_or ws left 0))) h in
     (eqb-true (get_or os left 0) o a, eqb-true (get_or os right 0) (right_start op o (get_or ws left 0)) b)
-
-pub passes_from : (ws os : List ℕ) (o : ℕ) (n : Node) → Passes ws os o n → passes ws os o n ≡ true
-passes_from ws os o (Leaf relation arity fields) h = refl
-passes_from ws os o (Choice node comparison) h = eq-eqb (get_or os node 0) o h
-passes_from ws os o (Pair op left right) (a, b) =
-    and_from (eqb (get_or os left 0) o) (eqb (get_or os right 0) (right_start op o (get_or ws left 0))) (eq-eqb (get_or os left 0) o a) (eq-eqb (get_or os right 0) (right_start op o (get_or ws left 0)) b)
 
 -- whether a node passes its offset on is about the nodes that it names alone
 passes_kept : (ws os ps : List ℕ) (o : ℕ) (n : Node) → ((c : ℕ) → 0 < namings c n → get_or ps c 0 ≡ get_or os c 0) → Passes ws os o n → Passes ws ps o n

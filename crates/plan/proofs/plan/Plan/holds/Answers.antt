@@ -1,15 +1,14 @@
 use Rattle.std.specs.Slice.Iter.{iter_rest, iter_steps}
 use Rattle.std.proofs.lemmas.List.{get_or-drop}
 use Rattle.std.specs.Option.{unwrap_or}
-use Rattle.std.proofs.Common.{◌≡◌, ℕ, ◌+◌, ◌-◌, ◌<◌, Bool, false, ◌&&◌, List, [], ◌∷◌, length, get_or, Some, None, Option, Bor, Iter, drop-drop, refl, sym, ap, ◌∙◌, subst, ap₂, arith, take, drop, take_all, length-take-le}
-use Rattle.std.proofs.lemmas.Bool.{and_left}
+use Rattle.std.proofs.Common.{◌≡◌, ℕ, ◌+◌, ◌<◌, Bool, false, List, [], ◌∷◌, length, get_or, Some, None, Option, Bor, Iter, drop-drop, refl, sym, ap, ◌∙◌, subst, rules, arith, take, drop, take_all, length-take-le}
 use Rattle.store.specs.declared.row.Row.{Row}
 use Rattle.ordered.specs.Lists.{items_in}
-use Rattle.plan.specs.Answers.{plan_width, is_answer}
+use Rattle.plan.specs.Answers.{is_answer}
 use Rattle.plan.specs.Filling.{leaves_before}
 use Rattle.plan.specs.Nodes.{blank}
 use Rattle.plan.specs.Plans.{nodes_of}
-use Rattle.plan.specs.Truths.{part_at, truth_of, truths, line_fits, plan_truth, Tells}
+use Rattle.plan.specs.Truths.{part_at, truth_of, truths, plan_truth, Tells}
 use Rattle.plan.specs.declared.plan.Plan.{Plan}
 use Rattle.plan.proofs.Answering.{by_names}
 use Rattle.plan.proofs.Evaluating.{own_idle, truths_more, truths_long}
@@ -27,13 +26,13 @@ told_next : (s t : Iter Bool) (r : Option (Bor Bool)) (v d : Bor Bool) → v ≡
 told_next s t None v d e f (none, same) = let n = nothing (iter_rest s) none in (ap (λ b. b.now) e ∙ f ∙ n.0, ap iter_rest same ∙ n.1)
 told_next s t (Some x) v d e f is = (ap (λ b. b.now) e ∙ sym (ap (λ xs. get_or xs 0 false) is), sym (ap (drop 1) is))
 
-pub truth_at-requires : goal.truth_at-requires
-truth_at-requires c =
+pub truth_at-requires-clause-earlier : goal.truth_at-requires-clause-earlier
+truth_at-requires-clause-earlier c =
     let plan = c.args.self.now in
+    let k = c.loop-k.k in
     let all = truths plan c.args.line.now.columns c.args.truth.now in
-    let within : c.loop-k.k < length (nodes_of plan) = omega (arith, ap length c.as_slice-step-items.ensures.items, steps_long plan) in
-    let long : length (take c.loop-k.k all) ≡ c.loop-k.k = length-take-le c.loop-k.k all (omega (arith, truths_long plan c.args.line.now.columns c.args.truth.now)) in
-    record { within = within; earlier = omega (arith, ap length c.as_slice.ensures.items, ap length c.loop-k.invariant.1) }
+    let long : length (take k all) ≡ k = length-take-le k all (omega (arith, truths_long plan c.args.line.now.columns c.args.truth.now, ap length c.as_slice-step-items.ensures.items, steps_long plan)) in
+    omega (arith, ap length c.as_slice.ensures.items, ap length c.loop-k.invariant.1)
 
 pub loop-k-preserved : goal.loop-k-preserved
 loop-k-preserved c =
@@ -67,13 +66,8 @@ loop-k-preserved c =
 says : (plan : Plan) (columns : List ℕ) (truth : List Bool) (r : Bool) → r ≡ plan_truth plan columns truth → (rows : List Row) → Tells plan columns rows truth → r ≡ is_answer (nodes_of plan) rows columns
 says plan columns truth r told rows tells = told ∙ sym (by_names plan columns rows truth tells)
 
-pub returns-then-not-fits : goal.returns-then-not-fits
-returns-then-not-fits c =
-    let plan = c.args.self.now in
-    let columns = c.args.line.now.columns in
-    let truth = c.args.truth.now in
-    let told : false ≡ plan_truth plan columns truth = sym (and_left (line_fits (plan_width (nodes_of plan)) columns) _ (sym c.if-not-fits.ensures)) in
-    record { told = told; means = says plan columns truth false told }
+pub returns-then-not-fits-clause-means : goal.returns-then-not-fits-clause-means
+returns-then-not-fits-clause-means c = says c.args.self.now c.args.line.now.columns c.args.truth.now false (search rules)
 
 -- at the end there is a truth for each node
 ended : (c : After-len) → c.as_slice-2.result.now ≡ truths c.args.self.now c.args.line.now.columns c.args.truth.now
@@ -85,12 +79,8 @@ ended c =
 pub bounds-as_slice-len : goal.bounds-as_slice-len
 bounds-as_slice-len c = omega (arith, ap length (ended (goal.at.bounds-as_slice-len c).After-len), truths_long c.args.self.now c.args.line.now.columns c.args.truth.now, c.len.ensures.length, steps_long c.args.self.now, c.args.self.now.some)
 
-pub returns : goal.returns
-returns c =
-    let plan = c.args.self.now in
-    let columns = c.args.line.now.columns in
-    let truth = c.args.truth.now in
-    let r = get_or c.as_slice-2.result.now (c.len.result - 1) false in
-    let told : r ≡ plan_truth plan columns truth =
-    ap₂ (λ ts n. get_or ts (n - 1) false) (ended (goal.at.returns c).After-len) (c.len.ensures.length ∙ steps_long plan) ∙ ap (λ fits. fits && get_or (truths plan columns truth) (length (nodes_of plan) - 1) false) c.if-not-fits.ensures in
-    record { told = told; means = says plan columns truth r told }
+pub returns-clause-means : goal.returns-clause-means
+returns-clause-means c =
+    let all = ended (goal.at.returns-clause-means c).After-len in
+    let long = steps_long c.args.self.now in
+    says c.args.self.now c.args.line.now.columns c.args.truth.now _ (search rules)

@@ -16,12 +16,6 @@ row_at-requires-clause-within c = (leaf_read c.args.self.now c.args.number _ (sy
 pub row_at-requires-clause-wide : goal.row_at-requires-clause-wide
 row_at-requires-clause-wide c = leaf_width c.args.self.now c.in_ok-leaf.field-0 (leaf_read c.args.self.now c.args.number _ (sym c.in_ok-leaf.ensures))
 
-pub returns-in_err-leaf : goal.returns-in_err-leaf
-returns-in_err-leaf c =
-    let plan = c.args.self.now in
-    let row_of : PlanLeaf → Row = λ leaf. named leaf.relation leaf.fields (part_at plan c.args.line.now.columns leaf.node) in
-    c.from_residual.ensures ∙ sym (slice_get-map row_of (leaves_of (nodes_of plan)) c.args.number ∙ ap (option_map row_of) (sym c.in_err-leaf.ensures))
-
 pub returns : goal.returns
 returns c =
     let plan = c.args.self.now in
