@@ -29,6 +29,7 @@ fn tail(line: &[u32; 8], cut: usize) -> [u32; 8]
     rest
 }
 
+// A product's cut is a number beside the search: a struct for the two would be made anew for each of three calls.
 impl Search {
     // Whether one line is before the other.
     pub fn is_before(&self, a: &[u32; 8], b: &[u32; 8]) -> bool
