@@ -1,13 +1,14 @@
 -- The first number below n that passes a test.
-use Rattle.std.proofs.Common.{◌≡◌, ℕ, zero, suc, ◌<◌, ◌≤◌, Bool, true, false, ◌⊎◌, List, Some, None, Ok, Err, Option, Result, MatchOption, MatchResult, sym, refl, ap, ◌∙◌, subst, inl, inr, arith}
+use Rattle.std.proofs.Common.{◌≡◌, ℕ, zero, suc, ◌<◌, ◌≤◌, Bool, true, false, ◌⊎◌, List, length, get_or, Some, None, Ok, Err, Option, Result, MatchOption, MatchResult, sym, refl, ap, ◌∙◌, zero-add, subst, inl, inr, arith}
 use Rattle.std.specs.Bool.{⊤}
 use Rattle.std.specs.declared.ops.Range.{Range}
-use Rattle.std.specs.Fn.{CalledAt}
+use Rattle.std.specs.Fn.{Called, CalledAt}
 use Rattle.std.specs.Iterator.{YieldsThen}
-use Rattle.std.specs.List.{FoldsTo}
+use Rattle.std.specs.List.{AllWithin, FoldsTo, HoldsAt, enumerate_from}
 use Rattle.std.proofs.iter.Yields.{nat_range_steps}
 use Rattle.std.proofs.lemmas.Bool.{cases_Bool, cases_lt}
-use Rattle.std.proofs.lemmas.Iterator.{first_from_Range}
+use Rattle.std.proofs.lemmas.Iterator.{YieldsList, IsFirst-from_position, first_from_Range}
+use Rattle.std.proofs.lemmas.List.FromFn.{length-enumerate_from, get_or-enumerate_from}
 use denote.Param.Members.{Mut}
 use denote.Ref.{Bor}
 use Rattle.plan.specs.Filling.{first, Spots}
@@ -62,6 +63,24 @@ module _ (test seen : ℕ → Bool) (s u : Range ℕ) (r : Option ℕ) where
       spots : (o : Option ℕ) → MatchOption o ((k : ℕ) → s.start ≤ k → k < s.end → seen k ≡ false) (λ i. (s.start ≤ i) × (i < s.end) × (seen i ≡ true) × ((k : ℕ) → s.start ≤ k → k < i → seen k ≡ false)) → Spots test s.end o
       spots None none = first_none test s.end (none_before s.end none)
       spots (Some i) (from, to, passes, none) = spots_at test s.end i to (sym (same i from) ∙ passes) (none_before i none)
+
+-- what a search through a list's things with their places tells, if its closure is the test of a place by the thing there
+module _ {A : Type 0} (test : ℕ → Bool) (seen : ℕ × A → Bool) (d : A) (xs : List A) (r : Option ℕ) where
+  pub spots_from_position : {S T F : Type 0} {steps : S → Option T → S → Type 0} {v : T → ℕ × A} {g : Mut F (T × Unit {0}) Bool} {s : S} {f : F} (u : S)
+      → (ys : List T) × (o : Option T) × (j : F) × YieldsThen steps s ys o u × FoldsTo (λ p x q. Called g p (x, tt) false q) f ys j × MatchOption o (r ≡ None) (λ x. (r ≡ Some (length ys)) × ((h : F) × Called g j (x, tt) true h))
+      → YieldsList steps v s (enumerate_from 0 xs) → ((x : T) (b : Bool) (q : F) → Called g f (x, tt) b q → (q ≡ f) × (b ≡ seen (v x)))
+      → ((k : ℕ) → k < length xs → seen (k, get_or xs k d) ≡ test k) → Spots test (length xs) r
+  spots_from_position {v = v} {f = f} u ran road is same =
+      spots r (IsFirst-from_position u f r (λ p. seen p ≡ true) (λ p. seen p ≡ false) ran road (λ x q k. sym (is x true q k).1) (λ x q k. ((is x false q k).0, sym (is x false q k).1)))
+    where
+      test_is : (b : Bool) (k : ℕ) → k < length xs → HoldsAt (λ p. seen p ≡ b) (enumerate_from 0 xs) k → test k ≡ b
+      test_is b k h at = sym (same k h) ∙ ap (λ (n : ℕ). seen (n, get_or xs k d)) (sym (zero-add k)) ∙ sym (ap seen (get_or-enumerate_from 0 xs k (0, d) h)) ∙ at (0, d)
+
+      spots : (o : Option ℕ) → MatchOption o (AllWithin (λ p. seen p ≡ false) (enumerate_from 0 xs) 0 (length (enumerate_from 0 xs))) (λ i. (i < length (enumerate_from 0 xs)) × HoldsAt (λ p. seen p ≡ true) (enumerate_from 0 xs) i × AllWithin (λ p. seen p ≡ false) (enumerate_from 0 xs) 0 i) → Spots test (length xs) o
+      spots None none = first_none test (length xs) (λ j h. test_is false j h (λ e. none j e (omega arith) (omega (arith, length-enumerate_from 0 xs))))
+      spots (Some i) (to, passes, none) =
+          let l : i < length xs = omega (arith, length-enumerate_from 0 xs) in
+          spots_at test (length xs) i l (test_is true i l passes) (λ j h. test_is false j (omega arith) (λ e. none j e (omega arith) h))
 
 -- the same with the number found as an error, as map_or(Ok(()), Err) gives it
 pub spots_as_error : {u : Unit {0}} (test : ℕ → Bool) (n : ℕ) (o : Option ℕ) (r : Result (Unit {0}) ℕ) → MatchOption o (r ≡ Ok u) (λ k. r ≡ Err k) → Spots test n o → MatchResult r (λ _. Spots test n None) (λ k. Spots test n (Some k))
