@@ -8,7 +8,7 @@ use Rattle.plan.specs.Leaves.{fields_of, leaf_lines}
 use Rattle.plan.specs.Nodes.{grown, blank}
 use Rattle.plan.specs.Plans.{nodes_of, widths_of}
 use Rattle.std.specs.Range.Bound.{bound_map}
-use Rattle.candidates.specs.Seeking.{is_past, Padded, Least, lesser, on_left, on_right, Finds}
+use Rattle.candidates.specs.Seeking.{line_of, Padded, Least, lesser, on_left, on_right, Finds}
 use Rattle.candidates.specs.Candidates.{before, candidates_of, candidates_at}
 use Rattle.plan.specs.declared.node.Field.{Field}
 use Rattle.store.specs.declared.comparison.Comparison.{Comparison}
@@ -22,20 +22,12 @@ use Rattle.candidates.proofs.Candidates.{candidates_at_lem, long_candidates}
 use Rattle.candidates.proofs.Going.{Goes, goes_end, going_none, going_found}
 use Rattle.plan.proofs.Having.{Long}
 use Rattle.candidates.proofs.Least.{least_append}
-use Rattle.plan.proofs.PlanNodes.{choice_in, pair_in}
+use Rattle.plan.proofs.PlanNodes.{choice_in, pair_in, step_node, steps_long}
+use Rattle.plan.specs.declared.step.Step.{Step}
+use Rattle.ordered.specs.Lists.{items_in}
 use Rattle.candidates.proofs.Products.{with_line, product_none, product_empty, product_here, product_over, product_next}
 
 -- ---- a start and its line
--- the start's line, if there is one; where there is none, any line serves
-abbrev line_of : Bound (List ℕ) → List ℕ
-line_of Unbounded = replicate 8 0
-line_of (Included at) = at
-line_of (Excluded at) = at
-
--- eight columns, in the start's line
-abbrev pub Eight : Bound (List ℕ) → Type 0
-Eight start = length (line_of start) ≡ 8
-
 own : (w : ℕ) (start : Bound (List ℕ)) → bound_map (take w) start ≡ with_line start (take w (line_of start))
 own w Unbounded = refl
 own w (Included at) = refl
@@ -46,24 +38,13 @@ own_left w Unbounded = refl
 own_left w (Included at) = refl
 own_left w (Excluded at) = refl
 
--- how the search goes on to the right, by whether the left line is past the start's left part
-own_right : (cut w : ℕ) (start : Bound (List ℕ)) (x : List ℕ) →
-    on_right (bound_map (λ at. take w (drop cut at)) start) (is_past (bound_map (take cut) (on_left start)) x) ≡ with_line (on_right start (before (take cut (line_of start)) x)) (take w (drop cut (line_of start)))
-own_right cut w Unbounded x = go (before (take cut (replicate 8 0)) x)
-  where
-    go : (b : Bool) → Unbounded ≡ with_line (on_right Unbounded b) (take w (drop cut (replicate 8 0)))
-    go true = refl
-    go false = refl
-own_right cut w (Included at) x = go (before (take cut at) x)
-  where
-    go : (b : Bool) → on_right (Included (take w (drop cut at))) b ≡ with_line (on_right (Included at) b) (take w (drop cut at))
-    go true = refl
-    go false = refl
-own_right cut w (Excluded at) x = go (before (take cut at) x)
-  where
-    go : (b : Bool) → on_right (Excluded (take w (drop cut at))) b ≡ with_line (on_right (Excluded at) b) (take w (drop cut at))
-    go true = refl
-    go false = refl
+own_right : (cut w : ℕ) (start : Bound (List ℕ)) (past : Bool) → on_right (bound_map (λ at. take w (drop cut at)) start) past ≡ with_line (on_right start past) (take w (drop cut (line_of start)))
+own_right cut w Unbounded true = refl
+own_right cut w Unbounded false = refl
+own_right cut w (Included at) true = refl
+own_right cut w (Included at) false = refl
+own_right cut w (Excluded at) true = refl
+own_right cut w (Excluded at) false = refl
 
 module _ (plan : Plan) (rows : List Row) where
   abbrev Cands : ℕ → List (List ℕ)
@@ -107,7 +88,7 @@ module _ (plan : Plan) (rows : List Row) where
     pub difference_finds : (l r : ℕ) → get_or (nodes_of plan) k blank ≡ Pair Difference l r → (a : Option (List ℕ)) → Finds rows plan l start a → Finds rows plan k start a
     difference_finds l r e a f = moved (Cands l) (Wide l) (are (Pair Difference l r) e) (pair_in plan k h Difference l r e).2 a f
 
-    module _ (l r : ℕ) (e : get_or (nodes_of plan) k blank ≡ Pair Product l r) (eight : Eight start) where
+    module _ (l r : ℕ) (e : get_or (nodes_of plan) k blank ≡ Pair Product l r) (eight : length (line_of start) ≡ 8) where
       abbrev Both : List (List ℕ)
       Both = lines_by Product (Cands l) (Cands r)
 
@@ -143,10 +124,10 @@ module _ (plan : Plan) (rows : List Row) where
       pub right_empty : Finds rows plan r Unbounded None → Finds rows plan k start None
       right_empty f = lift None (product_empty (Cands l) (Cands r) (Wide l) (Wide r) long_left First Second begin start f)
 
-      module _ (x : List ℕ) (found : Finds rows plan l (on_left start) (Some x)) (past : Bool) (ep : past ≡ is_past (bound_map (take (Wide l)) (on_left start)) (take (Wide l) x))
+      module _ (x : List ℕ) (found : Finds rows plan l (on_left start) (Some x)) (past : Bool) (ep : past ≡ before First (take (Wide l) x))
           (next : Bound (List ℕ)) (en : bound_map (take (Wide r)) next ≡ on_right (bound_map (λ at. take (Wide r) (drop (Wide l) at)) start) past) where
         on : (o : Option (List ℕ)) → Finds rows plan r next o → Least (Cands r) (with_line (on_right start (before First (take (Wide l) x))) Second) (Wide r) o
-        on o f = subst (λ s. Least (Cands r) s (Wide r) o) (en ∙ ap (on_right (bound_map (λ at. take (Wide r) (drop (Wide l) at)) start)) ep ∙ own_right (Wide l) (Wide r) start (take (Wide l) x)) f
+        on o f = subst (λ s. Least (Cands r) s (Wide r) o) (en ∙ own_right (Wide l) (Wide r) start past ∙ ap (λ b. with_line (on_right start b) Second) ep) f
 
         pub here_finds : (y z : List ℕ) → Finds rows plan r next (Some y) → take (Wide l + Wide r) z ≡ take (Wide l) x ++ take (Wide r) y → length z ≡ 8 → Padded (Wide l + Wide r) z → Finds rows plan k start (Some z)
         here_finds y z f parts long pad = lift (Some z)
@@ -159,3 +140,7 @@ module _ (plan : Plan) (rows : List Row) where
           pub next_finds : (c y z : List ℕ) → Finds rows plan l (Excluded x) (Some c) → Finds rows plan r Unbounded (Some y) → take (Wide l + Wide r) z ≡ take (Wide l) c ++ take (Wide r) y → length z ≡ 8 → Padded (Wide l + Wide r) z → Finds rows plan k start (Some z)
           next_finds c y z f g parts long pad = lift (Some z)
               (product_next (Cands l) (Cands r) (Wide l) (Wide r) long_left First Second begin start x (left (Some x) found) (on None none) c y z f g parts long pad)
+
+-- what stands at the node k, read of the steps
+pub stands : (plan : Plan) (steps : List Step) → steps ≡ items_in plan.steps → (k : ℕ) (d : Step) (n : Node) → k < length (nodes_of plan) → (get_or steps k d).node ≡ n → get_or (nodes_of plan) k blank ≡ n
+stands plan steps e k d n h is = sym (step_node plan steps e k d (omega (arith, ap length e, steps_long plan))) ∙ is

@@ -1,5 +1,5 @@
 -- The search for the least line from a start on.
-use Rattle.std.specs.Prelude.{◌≡◌, ℕ, ◌≤◌, Bool, true, false, cond, not, List, [], ◌∷◌, length, take, Some, None, Option, slice_index}
+use Rattle.std.specs.Prelude.{◌≡◌, ℕ, ◌≤◌, Bool, true, false, cond, not, List, [], ◌∷◌, length, take, replicate, Some, None, Option, slice_index}
 use mathlib.Core.List.{Memᴰ}
 use Rattle.candidates.specs.Candidates.{before, candidates_at}
 use Rattle.store.specs.declared.row.Row.{Row}
@@ -15,11 +15,11 @@ reaches Unbounded line = true
 reaches (Included at) line = not (before line at)
 reaches (Excluded at) line = before at line
 
--- a line is past the start's line, if there is one
-abbrev pub is_past : Bound (List ℕ) → List ℕ → Bool
-is_past Unbounded line = true
-is_past (Included at) line = before at line
-is_past (Excluded at) line = before at line
+-- the start's line, or zeros where there is none
+abbrev pub line_of : Bound (List ℕ) → List ℕ
+line_of Unbounded = replicate 8 0
+line_of (Included at) = at
+line_of (Excluded at) = at
 
 -- the array is zero from the width on
 abbrev pub Padded : ℕ → List ℕ → Type 0

@@ -44,30 +44,39 @@ impl<S: Source> Candidates<'_, S> {
         self.plan.steps()[k].width as usize
     }
 
+    // A search among lines as wide as that, from the start on.
+    fn search(&self, k: usize, start: Bound<[u32; 8]>) -> Search
+        requires { k < length (nodes_of self.now.plan.now) }
+        ensures start { result.start ≡ start }
+        ensures width { result.width ≡ slice_index (widths_of self.now.plan.now) k }
+    {
+        Search {
+            start,
+            width: self.width(k),
+        }
+    }
+
     // The least line of the node at `k`, from the start on.
     #[cycle(least)]
     pub fn least(&self, k: usize, start: Bound<[u32; 8]>) -> Option<[u32; 8]>
         requires { k < length (nodes_of self.now.plan.now) }
         ensures { Finds (rows_of (S.Source.model self.now.source.now).places) self.now.plan.now k start result }
     {
-        let step = self.plan.steps()[k];
-        let search = Search {
-            start,
-            width: step.width as usize,
-        };
-        match step.node {
+        match self.plan.steps()[k].node {
             Node::Leaf {
                 relation,
                 arity,
                 fields,
             } => self.at_leaf(
                 &PlanLeaf::new(k, relation, arity, fields),
-                search,
+                self.search(k, start),
             ),
-            Node::Choice { node, comparison } => self.at_choice(k, node as usize, &comparison, start),
+            Node::Choice { node, comparison } => {
+                self.at_choice(k, node as usize, &comparison, start)
+            }
             Node::Pair { op, left, right } => match op {
-                Op::Product => self.at_product(k, left as usize, right as usize, search),
-                Op::Union => search.lesser(
+                Op::Product => self.at_product(k, left as usize, right as usize, start),
+                Op::Union => self.search(k, start).lesser(
                     self.least(left as usize, start),
                     self.least(right as usize, start),
                 ),
@@ -107,17 +116,19 @@ impl<S: Source> Candidates<'_, S> {
         k: usize,
         left: usize,
         right: usize,
-        search: Search,
+        start: Bound<[u32; 8]>,
     ) -> Option<[u32; 8]>
         requires within { k < length (nodes_of self.now.plan.now) }
         requires stands { slice_index_or (nodes_of self.now.plan.now) k blank ≡ Pair Product left right }
-        requires wide { search.width ≡ slice_index (widths_of self.now.plan.now) k }
-        ensures { Finds (rows_of (S.Source.model self.now.source.now).places) self.now.plan.now k search.start result }
+        ensures { Finds (rows_of (S.Source.model self.now.source.now).places) self.now.plan.now k start result }
     {
+        let search = self.search(k, start);
         let cut = self.width(left);
+        let at = search.line();
         let on_left = search.on_left(cut);
         let first = self.least(left, on_left.start)?;
-        let on_right = search.on_right(cut, on_left.is_past(&first));
+        let past = on_left.is_before(&at, &first);
+        let on_right = search.on_right(cut, past);
         if let Some(second) = self.least(right, on_right.start) {
             return Some(search.joined(first, &second, cut));
         }

@@ -2,7 +2,7 @@
 ghost use Rattle.std.specs.Prelude.{◌≡◌, ◌-◌, ◌≤◌, [], ◌∷◌, ◌++◌, length, take, drop};
 ghost use Rattle.std.specs.Range.Bound.{bound_map};
 ghost use Rattle.plan.specs.Leaves.{opens, leaf_lines};
-ghost use Rattle.candidates.specs.Seeking.{reaches, is_past, Padded, Least, lesser, on_left, on_right};
+ghost use Rattle.candidates.specs.Seeking.{reaches, line_of, Padded, Least, lesser, on_left, on_right};
 ghost use Rattle.candidates.specs.Candidates.{before};
 
 use crate::leaf::line_of;
@@ -47,13 +47,13 @@ impl Search {
         }
     }
 
-    // Whether the line is past the start's line.
-    pub fn is_past(&self, line: &[u32; 8]) -> bool
-        ensures { result ≡ is_past (bound_map (take self.now.width) self.now.start) (take self.now.width line.now) }
+    // The start's line, or zeros where there is none.
+    pub fn line(&self) -> [u32; 8]
+        ensures { result ≡ line_of self.now.start }
     {
         match self.start {
-            Bound::Unbounded => true,
-            Bound::Included(at) | Bound::Excluded(at) => self.is_before(&at, line),
+            Bound::Unbounded => [0; 8],
+            Bound::Included(at) | Bound::Excluded(at) => at,
         }
     }
 
