@@ -1,15 +1,23 @@
 -- From the least line of a width to the least candidate of eight columns.
-use Rattle.std.proofs.Common.{◌≡◌, ℕ, ◌+◌, ◌-◌, ◌≤◌, Bool, true, false, List, ◌++◌, map, length, take, drop, replicate, Some, None, sym, ap, ◌∙◌, subst, inl, inr, arith, length-append, length-drop, take-append-drop, length-take-le, get_or-drop}
+use Rattle.std.proofs.Common.{◌≡◌, ℕ, ◌+◌, ◌-◌, ◌≤◌, Bool, true, false, List, ◌++◌, map, length, take, drop, replicate, Some, None, Option, ◌<◌, get_or, refl, sym, ap, ◌∙◌, subst, inl, inr, arith, length-append, length-drop, take-append-drop, length-take-le, get_or-drop}
 use mathlib.Core.List.Memᴰ
 use mathlib.Core.List.{Memᴰ}
 use Rattle.std.proofs.lemmas.List.{get_or-replicate, length-replicate, ext_get_or, take_at}
-use Rattle.std.proofs.lemmas.Bool.{both_ways}
+use Rattle.std.proofs.lemmas.Bool.{both_ways, and_parts}
 use Rattle.store.proofs.Tests.{same_tests}
-use Rattle.plan.specs.Answers.{has, padded}
-use Rattle.candidates.specs.Seeking.{reaches, Padded, Least}
-use Rattle.candidates.specs.Candidates.{before}
+use Rattle.std.specs.Prelude.{IfSome}
+use Rattle.std.specs.Range.Bound.{bound_map}
+use Rattle.store.specs.declared.row.Row.{Row}
+use Rattle.plan.specs.Answers.{has, padded, width_at, plan_width}
+use Rattle.plan.specs.Plans.{nodes_of, widths_of}
+use Rattle.plan.specs.Truths.{line_fits}
+use Rattle.plan.specs.declared.line.Line.{Line}
+use Rattle.plan.specs.declared.plan.Plan.{Plan}
+use Rattle.candidates.specs.Seeking.{reaches, past, Padded, Least, Finds}
+use Rattle.candidates.specs.Candidates.{before, candidates_at, is_candidate, is_after, Next, NextSays}
 use Rattle.std.specs.declared.ops.Bound.{Bound}
-use Rattle.plan.proofs.Having.{Long}
+use Rattle.plan.proofs.Having.{Long, has_padded}
+use Rattle.candidates.proofs.Candidates.{long_candidates}
 use Rattle.plan.proofs.Members.{line_in, line_has}
 use Rattle.candidates.proofs.Before.{front_less, front_cases, none_before_zeros}
 
@@ -54,3 +62,34 @@ module _ (cs : List (List ℕ)) (w : ℕ) (small : w ≤ 8) (long : Long w cs) (
             (λ t j h. ap (before (padded t)) (sym is) ∙ before_padded w (padded t) (take w a) small (padded_long t (omega (arith, long t j))) wide ∙
             ap (λ u. before u (take w a)) (take_at t (replicate (8 - length t) 0) w (long t j)) ∙ f t j (sym (agree t (long t j)) ∙ h)),
       )
+
+-- columns are after a line exactly when the search past it reaches their front
+after_past : (w : ℕ) → w ≤ 8 → (after : Option Line) → IfSome after (λ line. length line.columns ≡ 8) → (t : List ℕ) → length t ≡ w → is_after after (padded t) ≡ reaches (bound_map (take w) (past after)) t
+after_past w small None eight t long = refl
+after_past w small (Some line) eight t long = before_padded w line.columns t small eight long
+
+module _ (plan : Plan) (rows : List Row) (after : Option Line) (eight : IfSome after (λ line. length line.columns ≡ 8)) (k : ℕ) (last : k ≡ length (nodes_of plan) - 1) where
+  within : k < length (nodes_of plan)
+  within = omega (arith, plan.some)
+
+  abbrev Wide : ℕ
+  Wide = get_or (widths_of plan) k 0
+
+  small : Wide ≤ 8
+  small = (plan.wide k within).2
+
+  is_width : Wide ≡ plan_width (nodes_of plan)
+  is_width = (plan.wide k within).1 ∙ ap (width_at (nodes_of plan)) last
+
+  -- the candidates of the last node are the plan's
+  at_last : (columns : List ℕ) → is_candidate (nodes_of plan) rows columns ≡ has (map padded (candidates_at rows (nodes_of plan) k)) columns
+  at_last columns = ap (λ n. has (map padded (candidates_at rows (nodes_of plan) n)) columns) (sym last)
+
+  pub says_none : Finds rows plan k (past after) None → NextSays (nodes_of plan) rows after None
+  says_none f columns h = found_none (candidates_at rows (nodes_of plan) k) Wide small (long_candidates plan rows k within) (bound_map (take Wide) (past after)) (is_after after) (after_past Wide small after eight) f columns (sym (at_last columns) ∙ h)
+
+  pub says_some : (columns : List ℕ) → Finds rows plan k (past after) (Some columns) → Next (nodes_of plan) rows after columns
+  says_some columns f =
+      let (is, past, least) = found_some (candidates_at rows (nodes_of plan) k) Wide small (long_candidates plan rows k within) (bound_map (take Wide) (past after)) (is_after after) (after_past Wide small after eight) columns f in
+      let fits = (and_parts (line_fits Wide columns) _ (sym (has_padded (candidates_at rows (nodes_of plan) k) Wide columns small (long_candidates plan rows k within)) ∙ is)).0 in
+      record { candidate = at_last columns ∙ is; past = past; least = λ other h a. least other (sym (at_last other) ∙ h) a; fits = subst (λ w. line_fits w columns ≡ true) is_width fits }

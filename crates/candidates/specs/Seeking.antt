@@ -4,6 +4,7 @@ use mathlib.Core.List.{Memᴰ}
 use Rattle.candidates.specs.Candidates.{before, candidates_at}
 use Rattle.store.specs.declared.row.Row.{Row}
 use Rattle.plan.specs.Plans.{nodes_of, widths_of}
+use Rattle.plan.specs.declared.line.Line.{Line}
 use Rattle.plan.specs.declared.plan.Plan.{Plan}
 use Rattle.std.specs.Range.Bound.{bound_map}
 use Rattle.std.specs.declared.ops.Bound.{Bound}
@@ -20,6 +21,11 @@ abbrev pub line_of : Bound (List ℕ) → List ℕ
 line_of Unbounded = replicate 8 0
 line_of (Included at) = at
 line_of (Excluded at) = at
+
+-- the search that takes the lines past this one, or all
+abbrev pub past : Option Line → Bound (List ℕ)
+past None = Unbounded
+past (Some line) = Excluded line.columns
 
 -- the array is zero from the width on
 abbrev pub Padded : ℕ → List ℕ → Type 0
