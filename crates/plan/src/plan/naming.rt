@@ -29,7 +29,7 @@ impl Plan {
         ensures width { result ≡ plan_width (nodes_of self.now) }
         ensures eight { result ≤ 8 }
     {
-        self.steps.as_slice()[self.steps.len() - 1].width as usize
+        self.steps()[self.steps.len() - 1].width as usize
     }
 
     // How many leaves there are.
@@ -60,7 +60,7 @@ impl Plan {
         ensures part { result.now ≡ part_at self.now line.now.columns k }
         ensures wide { length result.now ≡ slice_index (widths_of self.now) k }
     {
-        let step = &self.steps.as_slice()[k];
+        let step = &self.steps()[k];
         let start = step.start as usize;
         &line.columns[start..start + step.width as usize]
     }
