@@ -1,12 +1,11 @@
 -- The line of one row at a leaf.
-use Rattle.std.proofs.Common.{◌≡◌, ℕ, suc, ◌+◌, ◌-◌, ◌≤◌, true, false, cond, ◌&&◌, eqb, List, [], ◌∷◌, ◌++◌, map, length, get_or, drop, replicate, Some, refl, sym, ap, ◌∙◌, ap₂, arith, inl, inr, length-append, length-drop, get_or-drop}
+use Rattle.std.proofs.Common.{◌≡◌, ℕ, ◌+◌, ◌-◌, ◌≤◌, true, cond, ◌&&◌, eqb, List, [], ◌∷◌, ◌++◌, map, length, get_or, drop, replicate, Some, sym, ap, ◌∙◌, arith, inl, inr, length-append, length-drop, get_or-drop}
 use Rattle.std.proofs.lemmas.List.{take_at, length-replicate, get_or-append_right, get_or-replicate, get_or_past}
-use Rattle.std.proofs.lemmas.Bool.{both_ways, and_parts, and_from, eqb-true, eq-eqb, cases_lt}
+use Rattle.std.proofs.lemmas.Bool.{and_from, eq-eqb, cases_lt}
 use Rattle.store.specs.declared.row.Row.{Row}
-use Rattle.plan.specs.Leaves.{opens, matches, opened, leaf_lines, filled}
+use Rattle.plan.specs.Leaves.{opens, matches, opened, leaf_lines}
 use Rattle.candidates.specs.Seeking.{Single}
 use Rattle.plan.specs.declared.node.Field.{Field}
-use Rattle.plan.specs.declared.node.Field.TheVariants.{Open, Fixed}
 use Rattle.plan.proofs.Filled.{length_opened}
 
 zero_at : (n k : ℕ) → get_or {A = ℕ} (replicate n 0) k 0 ≡ 0

@@ -1,9 +1,7 @@
 -- A line at a leaf, and the row that it names there.
-use Rattle.std.proofs.Common.{◌≡◌, ℕ, suc, ◌+◌, ◌-◌, ◌≤◌, true, false, cond, ◌&&◌, eqb, List, [], ◌∷◌, ◌++◌, map, length, get_or, drop, replicate, Some, refl, sym, ap, ◌∙◌, ap₂, arith, inl, inr, length-append, length-drop, get_or-drop}
-use Rattle.std.proofs.lemmas.List.{take_at, length-replicate, get_or-append_right, get_or-replicate, get_or_past}
-use Rattle.std.proofs.lemmas.Bool.{both_ways, and_parts, and_from, eqb-true, eq-eqb, cases_lt}
-use Rattle.store.specs.declared.row.Row.{Row}
-use Rattle.plan.specs.Leaves.{opens, matches, opened, leaf_lines, filled}
+use Rattle.std.proofs.Common.{◌≡◌, ℕ, suc, true, false, eqb, List, [], ◌∷◌, length, refl, ap, ap₂, arith}
+use Rattle.std.proofs.lemmas.Bool.{both_ways, and_parts, and_from, eqb-true, eq-eqb}
+use Rattle.plan.specs.Leaves.{opens, matches, opened, filled}
 use Rattle.plan.specs.declared.node.Field.{Field}
 use Rattle.plan.specs.declared.node.Field.TheVariants.{Open, Fixed}
 

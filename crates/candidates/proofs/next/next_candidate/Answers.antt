@@ -1,4 +1,4 @@
-use Rattle.std.proofs.Common.{◌≡◌, ◌-◌, length, Some, None, sym, subst, ap, ◌∙◌, arith}
+use Rattle.std.proofs.Common.{◌≡◌, ◌-◌, length, Some, None, sym, subst, ap, arith}
 use Rattle.store.specs.Held.{rows_of}
 use Rattle.plan.specs.Plans.{nodes_of}
 use Rattle.plan.proofs.PlanNodes.{steps_long}

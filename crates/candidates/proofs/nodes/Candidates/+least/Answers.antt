@@ -1,16 +1,15 @@
-use Rattle.std.proofs.Common.{rules, ◌≡◌, ℕ, ◌+◌, ◌-◌, ◌<◌, ◌≤◌, true, false, List, ◌++◌, length, get_or, take, drop, Some, None, Option, sym, subst, ap, ap₂, ◌∙◌, arith}
+use Rattle.std.proofs.Common.{rules, ◌≡◌, ℕ, ◌+◌, ◌-◌, ◌<◌, ◌≤◌, List, ◌++◌, length, get_or, take, drop, Some, None, sym, subst, ap, ap₂, ◌∙◌, arith}
 use Rattle.std.specs.Range.Bound.{bound_map}
 use Rattle.store.specs.Held.{rows_of}
 use Rattle.plan.specs.Answers.{chosen}
-use Rattle.plan.specs.Leaves.{fields_of, opens, leaf_lines}
-use Rattle.plan.specs.Nodes.{blank}
+use Rattle.plan.specs.Leaves.{opens, leaf_lines}
 use Rattle.plan.specs.Plans.{nodes_of, widths_of}
-use Rattle.plan.specs.declared.node.Op.TheVariants.{Product, Union, Difference}
-use Rattle.plan.specs.declared.node.Node.TheVariants.{Leaf, Choice, Pair}
+use Rattle.plan.specs.declared.node.Op.TheVariants.{Product}
+use Rattle.plan.specs.declared.node.Node.TheVariants.{Pair}
 use Rattle.plan.proofs.PlanNodes.{leaf_in, pair_in}
 use Rattle.candidates.specs.Candidates.{before, candidates_at}
 use Rattle.candidates.specs.Seeking.{Padded, Least, Finds, lesser, line_of, on_left, on_right}
-use Rattle.candidates.proofs.Going.{Goes, goes_start, goes_on, remain, remain_less}
+use Rattle.candidates.proofs.Going.{Goes, goes_on, remain, remain_less}
 use Rattle.candidates.proofs.Searching.{stands, leaf_finds, choice_finds, choice_ends, union_finds, difference_finds, left_ends, right_empty, here_finds, both_end, next_finds}
 use Rattle.candidates.proofs.nodes.Candidates.+least.Given as given
 use Rattle.candidates.proofs.nodes.Candidates.+least.Goals as goal

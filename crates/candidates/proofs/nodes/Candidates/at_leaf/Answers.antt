@@ -1,4 +1,4 @@
-use Rattle.std.proofs.Common.{◌≡◌, ℕ, ◌+◌, ◌<◌, length, get_or, take, Some, None, sym, subst, ap, ◌∙◌, rules, arith, take_all}
+use Rattle.std.proofs.Common.{◌<◌, length, take, sym, subst, ◌∙◌, arith, take_all}
 use Rattle.std.specs.Range.Bound.{bound_map}
 use Rattle.store.specs.Held.{rows_of}
 use Rattle.plan.specs.Leaves.{leaf_lines}
