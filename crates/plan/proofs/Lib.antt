@@ -17,10 +17,3 @@ pub mod Members
 pub mod Having
 pub mod Answering
 pub mod Faults
-pub mod Before
-pub mod Least
-pub mod Going
-pub mod Products
-pub mod Candidates
-pub mod Searching
-pub mod Nexts

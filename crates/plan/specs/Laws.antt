@@ -1,11 +1,10 @@
 -- The theorems about plans.
-use Rattle.std.specs.Prelude.{◌≡◌, ℕ, Bool, true, not, ◌&&◌, List, [], length, filter, slice_index_or}
+use Rattle.std.specs.Prelude.{◌≡◌, ℕ, Bool, true, not, ◌&&◌, List, [], length, slice_index_or}
 use Rattle.store.specs.declared.row.Row.{Row}
 use Rattle.plan.specs.Answers.{is_answer, width_of}
 use Rattle.plan.specs.Filling.{Earlier, first, unfit, unfit_at}
 use Rattle.plan.specs.Nodes.{grown}
 use Rattle.plan.specs.Plans.{nodes_of}
-use Rattle.plan.specs.Streams.{is_candidate}
 use Rattle.plan.specs.Truths.{Tells, plan_truth}
 use Rattle.plan.specs.declared.node.Node.{Node}
 use Rattle.plan.specs.declared.node.Node.TheVariants.{Leaf, Choice, Pair}
@@ -28,7 +27,3 @@ tree_fits nodes k = slice_index_or (grown (λ done node. not (unfit (grown width
 -- the first node whose tree does not fit is the first node that itself fails
 abbrev pub FirstFault : Type 0
 FirstFault = (nodes : List Node) → Earlier nodes → first (λ k. not (tree_fits nodes k)) (length nodes) ≡ first (unfit_at nodes) (length nodes)
-
--- every answer over some of the rows is a candidate over all of them
-abbrev pub AllCandidates : Type 0
-AllCandidates = (plan : Plan) (R : Row → Bool) (rows : List Row) (columns : List ℕ) → is_answer (nodes_of plan) (filter R rows) columns ≡ true → is_candidate (nodes_of plan) rows columns ≡ true

@@ -7,7 +7,5 @@ pub mod Gathering
 pub mod Parts
 pub mod Plans
 pub mod Truths
-pub mod Streams
-pub mod Seeking
 pub mod Laws
 pub mod Steps

@@ -1,11 +1,9 @@
-// One leaf: what it asks of a row's columns, the row that a line names there, and the line that a row gives there.
-ghost use Rattle.std.specs.Prelude.{◌≡◌, ◌≤◌, List, [], ◌∷◌, length};
+// One leaf: what it asks of a row's columns, and the row that a line names there.
+ghost use Rattle.std.specs.Prelude.{◌≡◌, ◌≤◌, List, ◌∷◌, length};
 ghost use Rattle.plan.specs.declared.node.Field.{Field};
-ghost use Rattle.plan.specs.Leaves.{fields_of, opens, leaf_lines, filled, named};
-ghost use Rattle.plan.specs.Seeking.{Single};
+ghost use Rattle.plan.specs.Leaves.{fields_of, opens, filled, named};
 
 use crate::node::Field;
-use ordered::Few;
 use store::Row;
 
 // A leaf of a plan.
@@ -21,7 +19,7 @@ pub struct PlanLeaf {
 
 impl PlanLeaf {
     // The leaf that stands at this place.
-    pub(crate) fn new(node: usize, relation: u16, arity: u8, fields: [Field; 4]) -> PlanLeaf
+    pub fn new(node: usize, relation: u16, arity: u8, fields: [Field; 4]) -> PlanLeaf
         ensures { result ≡ record { node = node; relation = relation; arity = arity; fields = fields_of arity fields } }
     {
         let mut all = fields;
@@ -65,30 +63,5 @@ impl PlanLeaf {
             relation: self.relation,
             columns,
         }
-    }
-
-    // The line that a row gives here, if it is of the relation and has the constants: its numbers at the open fields.
-    pub(crate) fn line_of(&self, row: &Row) -> Option<[u32; 8]>
-        ensures { Single (leaf_lines self.now.relation self.now.fields (row.now ∷ [])) (opens self.now.fields) result }
-    {
-        if row.relation != self.relation {
-            return None;
-        }
-        // One pass tests the fixed columns and gathers the open ones, and ends where one fails; `all` and then a `filter` would be two,
-        // and a `Few` is not collected into.
-        let mut open = Few::<u32, 4>::new(0);
-        for (field, column) in self.fields.iter().zip(&row.columns) {
-            match *field {
-                Field::Open => open.push(*column),
-                Field::Fixed(constant) => {
-                    if constant != *column {
-                        return None;
-                    }
-                }
-            }
-        }
-        let mut line = [0; 8];
-        line[..open.len()].copy_from_slice(open.as_slice());
-        Some(line)
     }
 }

@@ -17,14 +17,15 @@ mod offsets;
 mod order;
 mod plan;
 mod refusal;
-mod seek;
 mod step;
 mod tree;
 mod widths;
 
+pub use choice::is_chosen;
 pub use laws::{by_names, first_fault};
 pub use leaf::PlanLeaf;
 pub use line::Line;
 pub use node::{Comparison, Field, Node, Op, Side};
 pub use plan::Plan;
 pub use refusal::Refusal;
+pub use step::Step;

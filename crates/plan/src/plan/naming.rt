@@ -3,6 +3,7 @@ ghost use Rattle.std.specs.Prelude.{◌≡◌, ◌<◌, ◌≤◌, Bool, map, le
 ghost use Rattle.std.specs.Fn.{FnReturnsAt};
 ghost use Rattle.std.specs.List.{slice_get};
 ghost use Rattle.store.specs.declared.row.Row.{Row};
+ghost use Rattle.ordered.specs.Lists.{items_in};
 ghost use Rattle.plan.specs.Answers.{plan_width};
 ghost use Rattle.plan.specs.Gathering.{leaves_of};
 ghost use Rattle.plan.specs.Leaves.{opens, named};
@@ -12,15 +13,23 @@ ghost use Rattle.plan.specs.Truths.{part_at, named_rows};
 use super::Plan;
 use crate::leaf::PlanLeaf;
 use crate::line::Line;
+use crate::step::Step;
 use store::Row;
 
 impl Plan {
+    // Its nodes, each with its width and with where its line begins.
+    pub fn steps(&self) -> &[Step]
+        ensures { result.now ≡ items_in self.now.steps }
+    {
+        self.steps.as_slice()
+    }
+
     // How many columns an answer has.
     pub fn width(&self) -> usize
         ensures width { result ≡ plan_width (nodes_of self.now) }
         ensures eight { result ≤ 8 }
     {
-        self.steps.as_slice()[self.steps.len() - 1].width as usize
+        self.steps()[self.steps.len() - 1].width as usize
     }
 
     // How many leaves there are.
@@ -52,7 +61,7 @@ impl Plan {
         ensures part { result.now ≡ part_at self.now line.now.columns k }
         ensures wide { length result.now ≡ slice_index (widths_of self.now) k }
     {
-        let step = &self.steps.as_slice()[k];
+        let step = &self.steps()[k];
         let start = step.start as usize;
         &line.columns[start..start + step.width as usize]
     }

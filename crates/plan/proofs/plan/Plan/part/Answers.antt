@@ -8,5 +8,5 @@ pub slice_bounds-result-end : goal.slice_bounds-result-end
 slice_bounds-result-end c =
     let plan = c.args.self.now in
     let none : Step = record { node = blank; width = 0; start = 0 } in
-    let room = step_room plan c.as_slice.result.now c.as_slice.ensures.items c.args.k none (omega (arith, ap length c.as_slice.ensures.items, steps_long plan)) in
+    let room = step_room plan c.steps.result.now c.steps.ensures c.args.k none (omega (arith, ap length c.steps.ensures, steps_long plan)) in
     omega (arith, room)

@@ -1,0 +1,10 @@
+use Rattle.std.proofs.Common.{take}
+use Rattle.std.specs.Range.Bound.{bound_map}
+use Rattle.store.specs.Held.{rows_of}
+use Rattle.plan.specs.Leaves.{leaf_lines}
+use Rattle.candidates.specs.Seeking.{Least}
+use Rattle.candidates.proofs.nodes.Candidates.at_leaf.Given as goal
+
+abbrev pub invariant-loop-place : goal.invariant-loop-place
+invariant-loop-place g l =
+    Least (leaf_lines l.leaf.relation l.leaf.fields (rows_of (take l.place (g.S.Source.model l.self.source.now).places))) (bound_map (take l.search.width) l.search.start) l.search.width l.least
