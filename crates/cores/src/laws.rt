@@ -1,7 +1,26 @@
 // What is proved of sure lines, of cores and of the search for them: each contract names its theorems.
 ghost use Rattle.cores.specs.Laws.{NeverBoth};
+ghost use Rattle.cores.specs.Laws.{PushMarks, PushReal, FewMarked, Different, HeldMarked};
+ghost use Rattle.cores.specs.Laws.{Blocked, NoneFits, EachTried, FreeIsBest};
 
 // What a sure line, a way and a core exclude.
 pub fn words()
     ensures both { NeverBoth }
+{}
+
+// How many places are marked, and that all are held.
+pub fn marking()
+    ensures push { PushMarks }
+    ensures real { PushReal }
+    ensures few { FewMarked }
+    ensures different { Different }
+    ensures held { HeldMarked }
+{}
+
+// Where a search for choices may turn back, and where it need not.
+pub fn searching()
+    ensures blocked { Blocked }
+    ensures none { NoneFits }
+    ensures each { EachTried }
+    ensures free { FreeIsBest }
 {}
