@@ -4,3 +4,6 @@ pub mod Chosen
 pub mod Turning
 pub mod Few
 pub mod Standing
+pub mod Deciding
+pub mod Picking
+pub mod FirstOnly

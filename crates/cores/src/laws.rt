@@ -1,11 +1,13 @@
 // What is proved of sure lines, of cores and of the search for them: each contract names its theorems.
-ghost use Rattle.cores.specs.Laws.{NeverBoth};
+ghost use Rattle.cores.specs.Laws.{NeverBoth, FirstTruths, InAndOut};
 ghost use Rattle.cores.specs.Laws.{PushMarks, PushReal, FewMarked, Different, HeldMarked};
 ghost use Rattle.cores.specs.Laws.{Blocked, NoneFits, EachTried, FreeIsBest};
 
 // What a sure line, a way and a core exclude.
 pub fn words()
     ensures both { NeverBoth }
+    ensures first { FirstTruths }
+    ensures apart { InAndOut }
 {}
 
 // How many places are marked, and that all are held.
