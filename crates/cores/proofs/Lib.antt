@@ -7,3 +7,6 @@ pub mod Standing
 pub mod Deciding
 pub mod Picking
 pub mod FirstOnly
+pub mod OnPlaces
+pub mod Telling
+pub mod Surely

@@ -1,5 +1,6 @@
 // What is proved of sure lines, of cores and of the search for them: each contract names its theorems.
 ghost use Rattle.cores.specs.Laws.{NeverBoth, FirstTruths, InAndOut};
+ghost use Rattle.cores.specs.Laws.{SureByPlaces};
 ghost use Rattle.cores.specs.Laws.{PushMarks, PushReal, FewMarked, Different, HeldMarked};
 ghost use Rattle.cores.specs.Laws.{Blocked, NoneFits, EachTried, FreeIsBest};
 
@@ -25,4 +26,9 @@ pub fn searching()
     ensures none { NoneFits }
     ensures each { EachTried }
     ensures free { FreeIsBest }
+{}
+
+// What is found over places is what a verdict says of rows.
+pub fn settling()
+    ensures { SureByPlaces }
 {}
