@@ -10,3 +10,6 @@ pub mod FirstOnly
 pub mod OnPlaces
 pub mod Telling
 pub mod Surely
+pub mod AtPlaces
+pub mod Coring
+pub mod ByRules

@@ -1,6 +1,6 @@
 // What is proved of sure lines, of cores and of the search for them: each contract names its theorems.
 ghost use Rattle.cores.specs.Laws.{NeverBoth, FirstTruths, InAndOut};
-ghost use Rattle.cores.specs.Laws.{SureByPlaces};
+ghost use Rattle.cores.specs.Laws.{SureByPlaces, CoreByPlaces, SureByRules, CoreByRules};
 ghost use Rattle.cores.specs.Laws.{PushMarks, PushReal, FewMarked, Different, HeldMarked};
 ghost use Rattle.cores.specs.Laws.{Blocked, NoneFits, EachTried, FreeIsBest};
 
@@ -30,5 +30,8 @@ pub fn searching()
 
 // What is found over places is what a verdict says of rows.
 pub fn settling()
-    ensures { SureByPlaces }
+    ensures sure { SureByPlaces }
+    ensures core { CoreByPlaces }
+    ensures sure_by_rules { SureByRules }
+    ensures core_by_rules { CoreByRules }
 {}
