@@ -1,11 +1,9 @@
 -- The same where the conflicts are listed as those of some rules.
-use Rattle.std.proofs.Common.{◌≡◌, ℕ, true, List, map, get_or, None, sym, ap, ◌∙◌, subst}
+use Rattle.std.proofs.Common.{◌≡◌, true, List, map, sym, ap, ◌∙◌, subst}
 use mathlib.Core.List.Memᴰ
-use mathlib.Core.List.{Memᴰ}
 use Rattle.std.proofs.lemmas.Simd.{map-map}
 use Rattle.store.specs.Held.{rows_of}
 use Rattle.store.specs.Store.{Store}
-use Rattle.store.specs.declared.row.Row.{Row}
 use Rattle.rules.specs.Listing.{Listed, Lists, rows_at, is_conflict}
 use Rattle.rules.specs.Readings.{reading}
 use Rattle.rules.specs.Rules.{Denial, conflicts}

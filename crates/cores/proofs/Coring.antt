@@ -1,15 +1,13 @@
 -- Where some way that loses the line can be, the rows at the places that are marked are a core.
-use Rattle.std.proofs.Common.{◌≡◌, ℕ, ◌≤◌, Bool, true, false, not, ◌||◌, List, [], ◌∷◌, ◌++◌, map, length, get_or, take, filter, Some, None, Option, sym, refl, ap, ◌∙◌, subst, arith, length-append}
+use Rattle.std.proofs.Common.{◌≡◌, ℕ, ◌≤◌, Bool, true, false, not, ◌||◌, List, map, length, get_or, filter, None, Option, sym, ap, ◌∙◌, subst, arith}
 use mathlib.Core.List.Memᴰ
 use mathlib.Core.List.{Memᴰ}
-use Rattle.std.proofs.lemmas.Bool.{both_ways, not-true, and_parts, eq-eqb}
-use Rattle.store.specs.Held.{given, rows_of}
+use Rattle.std.proofs.lemmas.Bool.{not-true, and_parts}
+use Rattle.store.specs.Held.{rows_of}
 use Rattle.store.specs.Lists.{all}
 use Rattle.store.specs.Places.{OnceIn}
-use Rattle.store.specs.Rows.{same_row}
 use Rattle.store.specs.Store.{Store}
 use Rattle.store.specs.declared.row.Row.{Row}
-use Rattle.store.proofs.Alike.{same_row_is}
 use Rattle.store.proofs.Tests.{all_at, all_put}
 use Rattle.plan.specs.Plans.{nodes_of}
 use Rattle.plan.specs.Truths.{named_rows, plan_truth}
@@ -17,28 +15,23 @@ use Rattle.plan.specs.Answers.{is_answer}
 use Rattle.plan.specs.declared.plan.Plan.{Plan}
 use Rattle.plan.proofs.Answering.{by_names}
 use Rattle.plan.proofs.PlanLeaves.{leaves_few, named_long}
-use Rattle.std.specs.Prelude.{nat_eq}
 use Rattle.rules.specs.Choosing.{SameSet}
-use Rattle.rules.specs.Laws.{Part}
 use Rattle.rules.specs.Listing.{rows_at, is_held}
-use Rattle.rules.specs.Readings.{clear, reading}
-use Rattle.rules.specs.Sets.{Rows, among, with, distinct}
-use Rattle.rules.proofs.Apart.{apart_first, apart_rest, apart_put}
+use Rattle.rules.specs.Readings.{clear}
+use Rattle.rules.specs.Sets.{Rows, among, with}
 use Rattle.rules.proofs.Ascents.{place_in, place_has, member_of}
-use Rattle.rules.proofs.Choosing.{at_pick, at_put, held_row}
+use Rattle.rules.proofs.Choosing.{at_put, held_row}
 use Rattle.rules.proofs.Extension.{extension}
-use Rattle.rules.proofs.Holding.{row_at}
-use Rattle.rules.proofs.Members.{row_in, row_has}
-use Rattle.cores.specs.Sure.{Core}
+use Rattle.rules.proofs.Members.{row_has}
 use Rattle.cores.specs.Ways.{ins_of, outs_of}
-use Rattle.cores.specs.Backing.{one_of, clear_places, Small, all_held, HeldIn, others, backing}
+use Rattle.cores.specs.Backing.{one_of, HeldIn, others, backing}
 use Rattle.cores.specs.Settling.{Located, lost_by, SomeWay}
 use Rattle.cores.specs.Laws.{CoreByPlaces}
 use Rattle.cores.proofs.Sets.{Within, clear_within}
 use Rattle.cores.proofs.Deciding.{stays_out, same_way}
 use Rattle.cores.proofs.AtPlaces.{rows_few, rows_once, rows_held}
 use Rattle.cores.proofs.Few.{few_marked, different}
-use Rattle.cores.proofs.OnPlaces.{say_row, on_places, clear_rows, one_place, at_places}
+use Rattle.cores.proofs.OnPlaces.{say_row, on_places, clear_rows, at_places}
 use Rattle.cores.proofs.Standing.{held_marked}
 use Rattle.cores.proofs.Telling.{tells_rows}
 

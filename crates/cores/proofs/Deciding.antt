@@ -1,9 +1,8 @@
 -- What a set of places says of the leaves, and that a set with the marked places says what their way says.
-use Rattle.std.proofs.Common.{◌≡◌, ℕ, suc, ◌<◌, ◌≤◌, Bool, true, false, not, ◌&&◌, List, [], ◌∷◌, ◌++◌, map, length, get_or, take, Some, None, Option, sym, refl, ap, ◌∙◌, subst, ap₂, inl, inr, arith}
+use Rattle.std.proofs.Common.{◌≡◌, ℕ, ◌<◌, ◌≤◌, Bool, true, false, not, List, [], ◌∷◌, map, length, get_or, take, Some, None, Option, sym, refl, ap, ◌∙◌, ap₂, inl, inr, arith}
 use mathlib.Core.List.Memᴰ
 use mathlib.Core.List.{Memᴰ}
 use Rattle.std.proofs.lemmas.Bool.{both_ways, not-true, and_parts, cases_eq}
-use Rattle.store.specs.Lists.{all}
 use Rattle.store.proofs.Tests.{from_not, all_put}
 use Rattle.rules.proofs.Ascents.{place_in, place_has}
 use Rattle.cores.specs.Ways.{place_if, ins_of, outs_of, may_be, possible}

@@ -1,14 +1,12 @@
 -- How many places are marked.
-use Rattle.std.proofs.Common.{◌≡◌, ℕ, zero, suc, ◌+◌, ◌*◌, ◌<◌, ◌≤◌, Bool, true, false, cond, not, eqb, List, [], ◌∷◌, length, get_or, filter, Some, None, Option, sym, refl, ap, subst, inl, inr, arith, length-append}
-use mathlib.Core.List.Memᴰ
+use Rattle.std.proofs.Common.{◌≡◌, ℕ, suc, ◌+◌, ◌*◌, ◌≤◌, Bool, true, false, cond, not, eqb, List, [], ◌∷◌, length, get_or, filter, Some, None, Option, sym, refl, subst, arith, length-append}
 use mathlib.Core.List.{Memᴰ}
-use Rattle.std.proofs.lemmas.Bool.{not_from_true, eq-eqb, eqb-true}
-use Rattle.store.specs.Lists.{all}
+use Rattle.std.proofs.lemmas.Bool.{not_from_true, eq-eqb}
 use Rattle.store.proofs.Tests.{all_at}
 use Rattle.rules.proofs.Apart.{no_more}
 use Rattle.rules.proofs.Ascents.{place_in}
 use Rattle.cores.specs.Ways.{place_if, ins_of, outs_of}
-use Rattle.cores.specs.Backing.{one_of, Small, without, others, Real}
+use Rattle.cores.specs.Backing.{one_of, Small, without, others}
 use Rattle.cores.specs.Laws.{FewMarked, Different}
 use Rattle.cores.proofs.Chosen.{Reals}
 use Rattle.cores.proofs.Sets.{member_at}

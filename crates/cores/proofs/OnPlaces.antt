@@ -1,9 +1,8 @@
 -- A set of rows as a set of places: those where its rows stand.
 use Rattle.std.proofs.Common.{◌≡◌, ℕ, Bool, true, false, not, ◌&&◌, ◌||◌, List, [], ◌∷◌, ◌++◌, map, get_or, is_some, Some, None, Option, sym, refl, ap, ◌∙◌, subst, ap₂, inl, inr}
-use mathlib.Core.List.Memᴰ
 use mathlib.Core.List.{Memᴰ}
 use Rattle.std.proofs.lemmas.Bool.{both_ways, and_parts, or_cases}
-use Rattle.store.specs.Held.{given, rows_of}
+use Rattle.store.specs.Held.{given}
 use Rattle.store.specs.Lists.{any, all}
 use Rattle.store.specs.Places.{OnceIn}
 use Rattle.store.specs.Rows.{same_row}

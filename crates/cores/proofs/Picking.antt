@@ -1,15 +1,13 @@
 -- Where a clear set cannot be added to, each row out of it has a conflict whose other rows are in it.
-use Rattle.std.proofs.Common.{◌≡◌, ℕ, zero, suc, ◌<◌, Bool, true, false, cond, not, List, [], ◌∷◌, ◌++◌, map, length, get_or, Some, None, Option, sym, refl, ap, ◌∙◌, subst, inl, inr, arith}
+use Rattle.std.proofs.Common.{◌≡◌, ℕ, zero, suc, Bool, true, false, cond, not, List, [], ◌∷◌, length, get_or, Some, None, Option, refl, ap, ◌∙◌, inl, inr, arith}
 use mathlib.Core.List.Memᴰ
 use mathlib.Core.List.{Memᴰ}
-use Rattle.std.proofs.lemmas.List.{length-map}
-use Rattle.std.proofs.lemmas.Bool.{both_ways}
 use Rattle.rules.proofs.Ascents.{place_in}
 use Rattle.cores.specs.Ways.{place_if, ins_of, outs_of, possible}
 use Rattle.cores.specs.Backing.{one_of, clear_places, without, others, backing, Works}
-use Rattle.cores.proofs.Sets.{Within, clear_within}
+use Rattle.cores.proofs.Sets.{clear_within}
 use Rattle.cores.proofs.Chosen.{RealAt, Reals}
-use Rattle.cores.proofs.Deciding.{say_of, way_in}
+use Rattle.cores.proofs.Deciding.{way_in}
 
 -- a conflict of the place o, whose other places are all in R
 pub record Pick (C : List (List ℕ)) (R : ℕ → Bool) (o : ℕ) : Type 0 where

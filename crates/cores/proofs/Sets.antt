@@ -1,11 +1,9 @@
 -- Sets of places, and elements by their number.
-use Rattle.std.proofs.Common.{◌≡◌, ℕ, zero, suc, ◌<◌, Bool, true, false, not, List, [], ◌∷◌, length, get_or, sym, refl, ap, ◌∙◌, subst, arith}
-use mathlib.Core.List.Memᴰ
+use Rattle.std.proofs.Common.{◌≡◌, ℕ, zero, suc, ◌<◌, Bool, true, false, List, [], ◌∷◌, length, get_or, sym, refl, arith}
 use mathlib.Core.List.{Memᴰ}
 use Rattle.std.proofs.lemmas.Bool.{both_ways, not-true, not-false, not_from_false}
 use Rattle.store.specs.Lists.{any, all}
 use Rattle.store.proofs.Tests.{from_not, any_pick, any_put, all_at, all_put}
-use Rattle.rules.specs.Choosing.{SameSet}
 use Rattle.rules.proofs.Ascents.{place_in, place_has}
 use Rattle.cores.specs.Backing.{one_of, clear_places}
 

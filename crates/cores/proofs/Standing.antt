@@ -1,14 +1,13 @@
 -- Which places are named, and that all places that are marked have rows.
-use Rattle.std.proofs.Common.{◌≡◌, ℕ, zero, suc, ◌<◌, Bool, true, false, List, [], ◌∷◌, ◌++◌, length, get_or, Some, None, Option, sym, refl, ap, ◌∙◌, subst, inl, inr, arith}
+use Rattle.std.proofs.Common.{◌≡◌, ℕ, zero, suc, Bool, true, false, List, [], ◌∷◌, ◌++◌, get_or, Some, None, Option, sym, refl, ap, subst, inl, inr, arith}
 use mathlib.Core.List.Memᴰ
 use mathlib.Core.List.{Memᴰ}
-use Rattle.store.specs.Lists.{all}
 use Rattle.store.specs.Store.{Store, FindSays}
 use Rattle.store.specs.declared.row.Row.{Row}
 use Rattle.store.proofs.Tests.{all_at, all_put}
 use Rattle.rules.specs.Listing.{is_held}
 use Rattle.cores.specs.Ways.{place_if, ins_of, outs_of}
-use Rattle.cores.specs.Backing.{all_held, HeldIn, without, others}
+use Rattle.cores.specs.Backing.{HeldIn, without, others}
 use Rattle.cores.specs.Settling.{Located}
 use Rattle.cores.specs.Laws.{HeldMarked}
 use Rattle.cores.proofs.Others.{without_pick}

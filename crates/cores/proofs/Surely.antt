@@ -1,13 +1,11 @@
 -- Where no way that loses the line can be, every reading has it: a reading shows of its own way that it can be.
-use Rattle.std.proofs.Common.{◌≡◌, ℕ, Bool, true, false, not, ◌||◌, List, [], map, length, get_or, filter, Some, None, Option, sym, refl, ap, ◌∙◌, subst, inl, inr}
-use mathlib.Core.List.Memᴰ
+use Rattle.std.proofs.Common.{◌≡◌, ℕ, Bool, true, false, not, ◌||◌, List, [], map, get_or, filter, Some, None, Option, sym, ap, ◌∙◌, subst, inl, inr}
 use mathlib.Core.List.{Memᴰ}
 use Rattle.std.proofs.lemmas.List.{length-map}
 use Rattle.std.proofs.lemmas.Bool.{both_ways, not-true, not-false, and_parts, or_cases, cases_Bool}
 use Rattle.store.specs.Held.{rows_of}
 use Rattle.store.specs.Lists.{all}
 use Rattle.store.specs.Places.{OnceIn}
-use Rattle.store.specs.Store.{Store}
 use Rattle.store.specs.declared.row.Row.{Row}
 use Rattle.store.proofs.Tests.{from_not, all_at, all_put}
 use Rattle.plan.specs.Truths.{plan_truth}

@@ -1,5 +1,5 @@
 -- What the places of the named rows say of a reading is whether it has these rows.
-use Rattle.std.proofs.Common.{◌≡◌, ℕ, ◌<◌, Bool, true, false, ◌&&◌, List, [], map, length, get_or, filter, take, Some, None, Option, sym, refl, ap, ◌∙◌, subst, arith, ext_get_or, take_all}
+use Rattle.std.proofs.Common.{◌≡◌, ℕ, Bool, false, ◌&&◌, List, [], map, length, get_or, filter, take, Some, None, Option, sym, ap, ◌∙◌, arith, ext_get_or, take_all}
 use Rattle.std.proofs.lemmas.List.{length-map, get_or-map}
 use Rattle.store.specs.Held.{rows_of}
 use Rattle.store.specs.Store.{Store, FindSays}

@@ -1,12 +1,11 @@
 -- Where a search for choices may turn back.
-use Rattle.std.proofs.Common.{◌≡◌, ℕ, ◌<◌, Bool, true, ◌&&◌, List, [], ◌∷◌, ◌++◌, length, get_or, sym, refl, ap, ◌∙◌, subst, inl, inr, arith, append_assoc, length-append}
+use Rattle.std.proofs.Common.{◌≡◌, ℕ, ◌<◌, true, List, [], ◌∷◌, ◌++◌, length, get_or, sym, subst, inl, inr, arith, append_assoc, length-append}
 use mathlib.Core.List.Memᴰ
-use mathlib.Core.List.{Memᴰ}
 use Rattle.std.proofs.lemmas.Bool.{both_ways, and_parts, and_from}
 use Rattle.store.specs.Lists.{all}
 use Rattle.store.proofs.Tests.{any_put, all_at}
 use Rattle.rules.specs.Choosing.{SameSet}
-use Rattle.rules.proofs.Ascents.{place_in, place_has, member_of}
+use Rattle.rules.proofs.Ascents.{place_in, member_of}
 use Rattle.cores.specs.Backing.{one_of, clear_places, without, others, backing, Works}
 use Rattle.cores.specs.Searching.{fits}
 use Rattle.cores.specs.Laws.{Blocked, NoneFits, EachTried, FreeIsBest}
