@@ -36,8 +36,8 @@ in_and_out C ins outs choices w p a b =
     let marks : List ℕ = backing C ins outs choices in
     both_ways (one_of marks p) (stays_out C ins outs choices w (one_of marks) w.stands (λ q h. h) p (place_in p outs b)) (place_has (Memᴰ.append_left (others C outs choices) (place_in p ins a)))
 
-says_so : (R : ℕ → Bool) (in? : Bool) (leaf : Option ℕ) → may_be in? leaf ≡ true → ((p : ℕ) → Memᴰ p (place_if in? leaf) → R p ≡ true) → ((p : ℕ) → Memᴰ p (place_if (not in?) leaf) → R p ≡ false) → say_of R leaf ≡ in?
-says_so R in? None may ins outs = sym (not-true in? may)
+says_so : (R : ℕ → Bool) (says : Bool) (leaf : Option ℕ) → may_be says leaf ≡ true → ((p : ℕ) → Memᴰ p (place_if says leaf) → R p ≡ true) → ((p : ℕ) → Memᴰ p (place_if (not says) leaf) → R p ≡ false) → say_of R leaf ≡ says
+says_so R says None may ins outs = sym (not-true says may)
 says_so R true (Some p) may ins outs = ins p (Memᴰ.head refl)
 says_so R false (Some p) may ins outs = outs p (Memᴰ.head refl)
 
@@ -46,8 +46,8 @@ pub same_way : (R : ℕ → Bool) (leaves : List (Option ℕ)) (way : List Bool)
     ((p : ℕ) → Memᴰ p (ins_of leaves way) → R p ≡ true) → ((p : ℕ) → Memᴰ p (outs_of leaves way) → R p ≡ false) → way_in R leaves ≡ take (length leaves) way
 same_way R [] way long may ins outs = refl
 same_way R (leaf ∷ leaves) [] long may ins outs = absurd (omega arith)
-same_way R (leaf ∷ leaves) (in? ∷ way) long may ins outs =
-    let (a, b) = and_parts (may_be in? leaf) (possible leaves way) may in
+same_way R (leaf ∷ leaves) (says ∷ way) long may ins outs =
+    let (a, b) = and_parts (may_be says leaf) (possible leaves way) may in
     ap₂ ◌∷◌
-    (says_so R in? leaf a (λ p m. ins p (Memᴰ.append_left (ins_of leaves way) m)) (λ p m. outs p (Memᴰ.append_left (outs_of leaves way) m)))
-    (same_way R leaves way (omega arith) b (λ p m. ins p (Memᴰ.append_right (place_if in? leaf) m)) (λ p m. outs p (Memᴰ.append_right (place_if (not in?) leaf) m)))
+    (says_so R says leaf a (λ p m. ins p (Memᴰ.append_left (ins_of leaves way) m)) (λ p m. outs p (Memᴰ.append_left (outs_of leaves way) m)))
+    (same_way R leaves way (omega arith) b (λ p m. ins p (Memᴰ.append_right (place_if says leaf) m)) (λ p m. outs p (Memᴰ.append_right (place_if (not says) leaf) m)))

@@ -12,7 +12,7 @@ use Rattle.cores.proofs.Chosen.{Reals}
 use Rattle.cores.proofs.Sets.{member_at}
 
 -- at each leaf one row is in or out at most
-one_side : (in? : Bool) (leaf : Option ℕ) → length (place_if in? leaf) + length (place_if (not in?) leaf) ≤ 1
+one_side : (says : Bool) (leaf : Option ℕ) → length (place_if says leaf) + length (place_if (not says) leaf) ≤ 1
 one_side true None = omega arith
 one_side false None = omega arith
 one_side true (Some p) = omega arith
@@ -21,8 +21,8 @@ one_side false (Some p) = omega arith
 sides : (leaves : List (Option ℕ)) (way : List Bool) → length (ins_of leaves way) + length (outs_of leaves way) ≤ length leaves
 sides [] way = omega arith
 sides (leaf ∷ leaves) [] = omega arith
-sides (leaf ∷ leaves) (in? ∷ way) =
-    omega (arith, sides leaves way, one_side in? leaf, length-append (place_if in? leaf) (ins_of leaves way), length-append (place_if (not in?) leaf) (outs_of leaves way))
+sides (leaf ∷ leaves) (says ∷ way) =
+    omega (arith, sides leaves way, one_side says leaf, length-append (place_if says leaf) (ins_of leaves way), length-append (place_if (not says) leaf) (outs_of leaves way))
 
 kept_few : (test : ℕ → Bool) (xs : List ℕ) → length (filter test xs) ≤ length xs
 kept_few test [] = omega arith

@@ -7,6 +7,7 @@ pub mod Standing
 pub mod Deciding
 pub mod Picking
 pub mod FirstOnly
+pub mod Numbers
 pub mod OnPlaces
 pub mod Telling
 pub mod Surely

@@ -24,7 +24,7 @@ place_if_leaf false None p m = elim m [ ]
 pub in_leaf : (leaves : List (Option ℕ)) (way : List Bool) (p : ℕ) → Memᴰ p (ins_of leaves way) → Memᴰ (Some p) leaves
 in_leaf [] way p m = elim m [ ]
 in_leaf (leaf ∷ leaves) [] p m = elim m [ ]
-in_leaf (leaf ∷ leaves) (in? ∷ way) p m = elim (Memᴰ.append_cases (place_if in? leaf) m) [ inl n ↦ Memᴰ.head (sym (place_if_leaf in? leaf p n)) | inr n ↦ Memᴰ.tail (in_leaf leaves way p n) ]
+in_leaf (leaf ∷ leaves) (says ∷ way) p m = elim (Memᴰ.append_cases (place_if says leaf) m) [ inl n ↦ Memᴰ.head (sym (place_if_leaf says leaf p n)) | inr n ↦ Memᴰ.tail (in_leaf leaves way p n) ]
 
 -- a leaf that has a place tells where a row stands
 pub leaf_stands : (s : Store) (named : List Row) (leaves : List (Option ℕ)) → Located s named leaves → (p : ℕ) → Memᴰ (Some p) leaves → (row : Row) × (get_or s.places p None ≡ Some row)

@@ -1,17 +1,18 @@
 -- Where a search for choices may turn back.
-use Rattle.std.proofs.Common.{◌≡◌, ℕ, ◌<◌, true, List, [], ◌∷◌, ◌++◌, length, get_or, sym, subst, inl, inr, arith, append_assoc, length-append}
+use Rattle.std.proofs.Common.{◌≡◌, ℕ, ◌<◌, true, false, List, [], ◌∷◌, ◌++◌, length, get_or, sym, subst, inl, inr, arith, append_assoc, length-append}
 use mathlib.Core.List.Memᴰ
-use Rattle.std.proofs.lemmas.Bool.{both_ways, and_parts, and_from}
-use Rattle.store.specs.Lists.{all}
-use Rattle.store.proofs.Tests.{any_put, all_at}
+use mathlib.Core.List.{Memᴰ}
+use Rattle.std.proofs.lemmas.Bool.{both_ways, and_parts, and_from, cases_eq}
+use Rattle.store.specs.Lists.{any, all}
+use Rattle.store.proofs.Tests.{from_not, any_pick, any_put, all_at, all_put}
 use Rattle.rules.specs.Choosing.{SameSet}
-use Rattle.rules.proofs.Ascents.{place_in, member_of}
+use Rattle.rules.proofs.Ascents.{place_in, place_has, member_of}
 use Rattle.cores.specs.Backing.{one_of, clear_places, without, others, backing, Works}
-use Rattle.cores.specs.Searching.{fits}
-use Rattle.cores.specs.Laws.{Blocked, NoneFits, EachTried, FreeIsBest}
+use Rattle.cores.specs.Searching.{fits, is_free, shut_out}
+use Rattle.cores.specs.Laws.{Blocked, NoneFits, ShutOut, EachTried, FreeIsBest}
 use lib.Seq.{get_or-append_seam}
-use Rattle.cores.proofs.Sets.{clear_within, within_lists, member_at, number_of}
-use Rattle.cores.proofs.Others.{others_at, others_cases, backing_front}
+use Rattle.cores.proofs.Sets.{clear_no, clear_within, within_lists, member_at, number_of}
+use Rattle.cores.proofs.Others.{without_put, others_at, others_cases, backing_front}
 use Rattle.cores.proofs.Chosen.{reals_change, reals_here}
 
 pub blocked : Blocked
@@ -69,3 +70,14 @@ free_is_best C ins outs chosen marks same next c inside free none (x ∷ more) w
         ]
       ])) w.stands;
     }))
+
+pub shut_out_lem : ShutOut
+shut_out_lem C marks o conflict shut = from_not (fits C marks o conflict) (λ fit.
+    let (p, m, k) = any_pick (shut_out C marks) (without o conflict) shut in
+    let (other, n, free) = any_pick (is_free marks p) C k in
+    let (has, idle) = and_parts (one_of other p) (all (one_of marks) (without p other)) free in
+    let all_marks : List ℕ = marks ++ without o conflict in
+    clear_no C (one_of all_marks) n (and_parts (one_of conflict o) (clear_places C (one_of all_marks)) fit).1 (all_put (one_of all_marks) other (λ q i. elim (cases_eq q p) [
+      | inl e ↦ place_has (Memᴰ.append_right marks (subst (λ x. Memᴰ x (without o conflict)) (sym e) m))
+      | inr ne ↦ place_has (Memᴰ.append_left (without o conflict) (place_in q marks (all_at (one_of marks) (without_put p i ne) idle)))
+    ])))

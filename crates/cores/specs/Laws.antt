@@ -1,5 +1,5 @@
 -- The theorems: what the search over places finds is what a verdict says of rows.
-use Rattle.std.specs.Prelude.{◌≡◌, ℕ, ◌<◌, ◌≤◌, Bool, true, false, List, [], ◌∷◌, ◌++◌, map, length, take, Option, nat_eq, slice_index, slice_index_or}
+use Rattle.std.specs.Prelude.{◌≡◌, ℕ, ◌/◌, ◌%◌, ◌^◌, ◌<◌, ◌≤◌, Bool, true, false, List, [], ◌∷◌, ◌++◌, map, length, Option, ◌==◌, nat_eq, slice_index, slice_index_or}
 use Rattle.store.specs.Held.{rows_of}
 use Rattle.store.specs.Lists.{any, all}
 use Rattle.store.specs.Places.{OnceIn}
@@ -14,10 +14,10 @@ use Rattle.plan.specs.Truths.{named_rows, plan_truth}
 use Rattle.plan.specs.declared.node.Node.{Node}
 use Rattle.plan.specs.declared.plan.Plan.{Plan}
 use Rattle.cores.specs.Sure.{Sure, Core}
-use Rattle.cores.specs.Ways.{ins_of, outs_of}
-use Rattle.cores.specs.Backing.{one_of, clear_places, Small, all_held, HeldIn, without, backing, Real, Works}
-use Rattle.cores.specs.Searching.{NoneBeyond, fits, is_free}
-use Rattle.cores.specs.Settling.{listed_places, Located, lost_by, SomeWay, NoWay}
+use Rattle.cores.specs.Ways.{ins_of, outs_of, possible, bits}
+use Rattle.cores.specs.Backing.{one_of, clear_places, Small, all_held, HeldIn, without, backing, Real, Works, NoneWorks}
+use Rattle.cores.specs.Searching.{NoneBeyond, fits, is_free, shut_out}
+use Rattle.cores.specs.Settling.{listed_places, Located, lost_by, ByFirst, SomeWay, NoWay}
 
 -- THE WORDS
 
@@ -28,12 +28,21 @@ NeverBoth = (rows : List Row) (conflicts : List (List Row)) (nodes : List Node) 
 
 -- a plan's truth depends on what is said of its leaves, and on nothing behind that
 abbrev pub FirstTruths : Type 0
-FirstTruths = (plan : Plan) (columns : List ℕ) (a b : List Bool) → take (length (named_rows plan columns)) a ≡ take (length (named_rows plan columns)) b →
-    plan_truth plan columns a ≡ plan_truth plan columns b
+FirstTruths = (plan : Plan) (columns : List ℕ) → ByFirst (length (named_rows plan columns)) (plan_truth plan columns)
 
 -- no choices work for a way that says of one place that its row is in, and that it is out
 abbrev pub InAndOut : Type 0
 InAndOut = (C : List (List ℕ)) (ins outs choices : List ℕ) → Works C ins outs choices → (p : ℕ) → one_of ins p ≡ true → one_of outs p ≡ true → ⊥
+
+-- the i-th of a number's bits
+abbrev pub BitAt : Type 0
+BitAt = (number n i : ℕ) → i < n → slice_index_or (bits number n) i false ≡ (number / 2 ^ i % 2 == 1)
+
+-- to go through all ways is to go through their numbers, be each way as short as the leaves or filled up to six
+abbrev pub EveryWay : Type 0
+EveryWay = (C : List (List ℕ)) (plan : Plan) (columns : List ℕ) (leaves : List (Option ℕ)) → length leaves ≡ length (named_rows plan columns) → (n : ℕ) → length leaves ≤ n →
+    ((number : ℕ) → number < 2 ^ length leaves → lost_by plan columns (bits number n) ≡ true → possible leaves (bits number n) ≡ true → NoneWorks C (ins_of leaves (bits number n)) (outs_of leaves (bits number n))) →
+    NoWay C (lost_by plan columns) leaves
 
 -- FROM PLACES TO ROWS
 
@@ -98,6 +107,10 @@ Blocked = (C : List (List ℕ)) (ins outs chosen marks : List ℕ) → SameSet m
 abbrev pub NoneFits : Type 0
 NoneFits = (C : List (List ℕ)) (ins outs chosen marks : List ℕ) → SameSet marks (backing C ins outs chosen) → (o : ℕ) → one_of outs o ≡ true → any (fits C marks o) C ≡ false →
     NoneBeyond C ins outs chosen
+
+-- a conflict does not fit when another row of it is shut out
+abbrev pub ShutOut : Type 0
+ShutOut = (C : List (List ℕ)) (marks : List ℕ) (o : ℕ) (conflict : List ℕ) → any (shut_out C marks) (without o conflict) ≡ true → fits C marks o conflict ≡ false
 
 -- when nothing works beyond any conflict that fits the next row that is out, nothing beyond works
 abbrev pub EachTried : Type 0

@@ -1,6 +1,6 @@
 -- A search for choices that work, one choice after the other.
 use Rattle.std.specs.Prelude.{ℕ, Bool, ◌&&◌, List, ◌++◌}
-use Rattle.store.specs.Lists.{all}
+use Rattle.store.specs.Lists.{any, all}
 use Rattle.cores.specs.Backing.{one_of, clear_places, without, Works}
 
 -- no choices that begin with these work
@@ -14,3 +14,7 @@ fits C marks o conflict = one_of conflict o && clear_places C (one_of (marks ++ 
 -- the conflict can be chosen for the place o at no cost: it has o, and its other places are marked already
 abbrev pub is_free : List ℕ → ℕ → List ℕ → Bool
 is_free marks o conflict = one_of conflict o && all (one_of marks) (without o conflict)
+
+-- the row at the place o is shut out: with it, some conflict would be marked whole
+abbrev pub shut_out : List (List ℕ) → List ℕ → ℕ → Bool
+shut_out C marks o = any (is_free marks o) C

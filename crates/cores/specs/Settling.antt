@@ -1,5 +1,5 @@
 -- What settles a verdict, over places: a way that loses the line and can be, or that there is none.
-use Rattle.std.specs.Prelude.{◌≡◌, ℕ, ◌<◌, ◌≤◌, Bool, true, not, List, map, length, None, Option, slice_index_or}
+use Rattle.std.specs.Prelude.{◌≡◌, ℕ, ◌<◌, ◌≤◌, Bool, true, not, List, map, length, take, None, Option, slice_index_or}
 use Rattle.store.specs.Store.{Store, FindSays}
 use Rattle.store.specs.declared.row.Row.{Row}
 use Rattle.rules.specs.Listing.{Listed}
@@ -20,6 +20,10 @@ pub record Located (s : Store) (named : List Row) (leaves : List (Option ℕ)) :
 -- the line is no answer of the plan where the rows that it names are in and out in this way
 abbrev pub lost_by : Plan → List ℕ → List Bool → Bool
 lost_by plan columns way = not (plan_truth plan columns way)
+
+-- what is told of a list depends on its first n elements
+abbrev pub ByFirst : ℕ → (List Bool → Bool) → Type 0
+ByFirst n told = (a b : List Bool) → take n a ≡ take n b → told a ≡ told b
 
 -- some way loses the line and can be, since some choices work; B is what these mark
 pub record SomeWay (C : List (List ℕ)) (lost : List Bool → Bool) (leaves : List (Option ℕ)) (B : List ℕ) : Type 0 where

@@ -1,14 +1,20 @@
 // What is proved of sure lines, of cores and of the search for them: each contract names its theorems.
-ghost use Rattle.cores.specs.Laws.{NeverBoth, FirstTruths, InAndOut};
+ghost use Rattle.cores.specs.Laws.{NeverBoth, InAndOut, FirstTruths, BitAt, EveryWay};
 ghost use Rattle.cores.specs.Laws.{SureByPlaces, CoreByPlaces, SureByRules, CoreByRules};
 ghost use Rattle.cores.specs.Laws.{PushMarks, PushReal, FewMarked, Different, HeldMarked};
-ghost use Rattle.cores.specs.Laws.{Blocked, NoneFits, EachTried, FreeIsBest};
+ghost use Rattle.cores.specs.Laws.{Blocked, NoneFits, ShutOut, EachTried, FreeIsBest};
 
 // What a sure line, a way and a core exclude.
 pub fn words()
     ensures both { NeverBoth }
-    ensures first { FirstTruths }
     ensures apart { InAndOut }
+{}
+
+// The ways to go through.
+pub fn ways()
+    ensures first { FirstTruths }
+    ensures bit { BitAt }
+    ensures every { EveryWay }
 {}
 
 // How many places are marked, and that all are held.
@@ -24,6 +30,7 @@ pub fn marking()
 pub fn searching()
     ensures blocked { Blocked }
     ensures none { NoneFits }
+    ensures shut { ShutOut }
     ensures each { EachTried }
     ensures free { FreeIsBest }
 {}
