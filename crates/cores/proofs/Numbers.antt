@@ -1,12 +1,10 @@
 -- Each way has a number, whose bits it is.
-use Rattle.std.proofs.Common.{◌≡◌, ℕ, zero, suc, ◌+◌, ◌*◌, ◌/◌, ◌%◌, ◌^◌, ◌<◌, ◌≤◌, Bool, true, false, not, ◌&&◌, eqb, List, [], ◌∷◌, ◌++◌, length, get_or, take, Some, None, Option, sym, refl, ap, ◌∙◌, subst, ap₂, arith, take_all, pow-suc, div-one}
+use Rattle.std.proofs.Common.{◌≡◌, ℕ, zero, suc, ◌+◌, ◌*◌, ◌/◌, ◌%◌, ◌^◌, ◌<◌, ◌≤◌, Bool, true, false, not, ◌&&◌, eqb, List, [], ◌∷◌, ◌++◌, length, take, Option, sym, refl, ap, ◌∙◌, subst, ap₂, arith, take_all, pow-suc, div-one}
 use native.Mathlib.Nat.{pow-zero, pow-succ', div-div-eq-div-mul}
 use Rattle.std.proofs.lemmas.Bool.{eq-eqb, ne_eqb}
 use Rattle.plan.specs.Truths.{named_rows}
-use Rattle.plan.specs.declared.plan.Plan.{Plan}
 use Rattle.cores.specs.Ways.{place_if, ins_of, outs_of, may_be, possible, bits}
 use Rattle.cores.specs.Backing.{NoneWorks}
-use Rattle.cores.specs.Settling.{lost_by, NoWay}
 use Rattle.cores.specs.Laws.{BitAt, EveryWay}
 use Rattle.cores.proofs.FirstOnly.{first_truths}
 

@@ -1,9 +1,9 @@
 -- Where a search for choices may turn back.
-use Rattle.std.proofs.Common.{◌≡◌, ℕ, ◌<◌, true, false, List, [], ◌∷◌, ◌++◌, length, get_or, sym, subst, inl, inr, arith, append_assoc, length-append}
+use Rattle.std.proofs.Common.{◌≡◌, ℕ, ◌<◌, true, List, [], ◌∷◌, ◌++◌, length, get_or, sym, subst, inl, inr, arith, append_assoc, length-append}
 use mathlib.Core.List.Memᴰ
 use mathlib.Core.List.{Memᴰ}
 use Rattle.std.proofs.lemmas.Bool.{both_ways, and_parts, and_from, cases_eq}
-use Rattle.store.specs.Lists.{any, all}
+use Rattle.store.specs.Lists.{all}
 use Rattle.store.proofs.Tests.{from_not, any_pick, any_put, all_at, all_put}
 use Rattle.rules.specs.Choosing.{SameSet}
 use Rattle.rules.proofs.Ascents.{place_in, place_has, member_of}

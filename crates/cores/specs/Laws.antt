@@ -26,19 +26,21 @@ abbrev pub NeverBoth : Type 0
 NeverBoth = (rows : List Row) (conflicts : List (List Row)) (nodes : List Node) (columns : List ℕ) (core : List Row) →
     Sure rows conflicts nodes columns → Core rows conflicts nodes columns core → ⊥
 
--- a plan's truth depends on what is said of its leaves, and on nothing behind that
-abbrev pub FirstTruths : Type 0
-FirstTruths = (plan : Plan) (columns : List ℕ) → ByFirst (length (named_rows plan columns)) (plan_truth plan columns)
+-- THE WAYS
 
 -- no choices work for a way that says of one place that its row is in, and that it is out
 abbrev pub InAndOut : Type 0
 InAndOut = (C : List (List ℕ)) (ins outs choices : List ℕ) → Works C ins outs choices → (p : ℕ) → one_of ins p ≡ true → one_of outs p ≡ true → ⊥
 
+-- a plan's truth depends on what is said of its leaves, and on nothing behind that
+abbrev pub FirstTruths : Type 0
+FirstTruths = (plan : Plan) (columns : List ℕ) → ByFirst (length (named_rows plan columns)) (plan_truth plan columns)
+
 -- the i-th of a number's bits
 abbrev pub BitAt : Type 0
 BitAt = (number n i : ℕ) → i < n → slice_index_or (bits number n) i false ≡ (number / 2 ^ i % 2 == 1)
 
--- to go through all ways is to go through their numbers, be each way as short as the leaves or filled up to six
+-- to go through all ways it is enough to go through their numbers, with n bits each, for any n from the number of leaves on
 abbrev pub EveryWay : Type 0
 EveryWay = (C : List (List ℕ)) (plan : Plan) (columns : List ℕ) (leaves : List (Option ℕ)) → length leaves ≡ length (named_rows plan columns) → (n : ℕ) → length leaves ≤ n →
     ((number : ℕ) → number < 2 ^ length leaves → lost_by plan columns (bits number n) ≡ true → possible leaves (bits number n) ≡ true → NoneWorks C (ins_of leaves (bits number n)) (outs_of leaves (bits number n))) →

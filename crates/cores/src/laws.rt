@@ -1,17 +1,18 @@
 // What is proved of sure lines, of cores and of the search for them: each contract names its theorems.
-ghost use Rattle.cores.specs.Laws.{NeverBoth, InAndOut, FirstTruths, BitAt, EveryWay};
+ghost use Rattle.cores.specs.Laws.{NeverBoth};
+ghost use Rattle.cores.specs.Laws.{InAndOut, FirstTruths, BitAt, EveryWay};
 ghost use Rattle.cores.specs.Laws.{SureByPlaces, CoreByPlaces, SureByRules, CoreByRules};
 ghost use Rattle.cores.specs.Laws.{PushMarks, PushReal, FewMarked, Different, HeldMarked};
 ghost use Rattle.cores.specs.Laws.{Blocked, NoneFits, ShutOut, EachTried, FreeIsBest};
 
-// What a sure line, a way and a core exclude.
+// A sure line has no core.
 pub fn words()
-    ensures both { NeverBoth }
-    ensures apart { InAndOut }
+    ensures { NeverBoth }
 {}
 
-// The ways to go through.
+// Which ways there are to go through, and what counts of them.
 pub fn ways()
+    ensures apart { InAndOut }
     ensures first { FirstTruths }
     ensures bit { BitAt }
     ensures every { EveryWay }
