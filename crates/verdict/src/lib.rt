@@ -12,4 +12,5 @@
 
 mod guard;
 mod marks;
+mod search;
 mod settling;

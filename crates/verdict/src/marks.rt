@@ -1,5 +1,5 @@
 // Places, one mark byte to each.
-ghost use Rattle.std.specs.Prelude.{◌≡◌, ◌≤◌, true, length, ◌==◌, slice_index};
+ghost use Rattle.std.specs.Prelude.{◌≡◌, ◌≤◌, true, length, ◌==◌, replicate, slice_index};
 ghost use Rattle.cores.specs.Backing.{without};
 ghost use Rattle.verdict.specs.Marking.{have_bytes, Adds};
 ghost use Rattle.verdict.specs.Lacking.{LackSays};
@@ -13,6 +13,13 @@ pub fn says(marks: &[u8], place: u16, mark: u8) -> bool
     ensures { result ≡ (slice_index marks.now place == mark) }
 {
     *marks.get(place as usize).unwrap_or(&0) == mark
+}
+
+// Makes all bytes zero.
+pub fn wipe(marks: &mut [u8])
+    ensures { marks.new ≡ replicate (length marks.old) 0 }
+{
+    marks.fill(0);
 }
 
 // Marks the rows at these places as in.
