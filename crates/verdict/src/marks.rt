@@ -9,10 +9,10 @@ pub const IN: u8 = 1;
 pub const SHUT: u8 = 2;
 
 // Whether the byte of a place says this.
-pub fn says(marks: &[u8], place: u16, mark: u8) -> bool
+pub fn says(marks: &[u8], place: usize, mark: u8) -> bool
     ensures { result ≡ (slice_index marks.now place == mark) }
 {
-    *marks.get(place as usize).unwrap_or(&0) == mark
+    *marks.get(place).unwrap_or(&0) == mark
 }
 
 // Makes all bytes zero.
@@ -62,7 +62,7 @@ pub fn lacking(marks: &[u8], places: &[u16]) -> Lack
 {
     let mut lack = Lack::Nothing;
     for place in places {
-        if !says(marks, *place, IN) {
+        if !says(marks, *place as usize, IN) {
             match lack {
                 Lack::Nothing => lack = Lack::One(*place),
                 _ => return Lack::More,

@@ -6,6 +6,7 @@ ghost use Rattle.verdict.specs.Marking.{lists_of, have_bytes};
 use rules::Conflict;
 
 pub mod laying;
+pub mod seeking;
 
 // The places of some rows that are to be in a reading, and of others that are to be out of it.
 #[derive(Clone, Copy)]

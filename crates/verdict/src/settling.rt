@@ -41,7 +41,7 @@ fn others_in(marks: &[u8], places: &[u16], out: u16) -> bool
 {
     places
         .iter()
-        .all(|place| *place == out || says(marks, *place, IN))
+        .all(|place| *place == out || says(marks, *place as usize, IN))
 }
 
 // Whether none of the rows at these places is shut out, but for the one at `out`.
@@ -50,7 +50,7 @@ fn others_left(marks: &[u8], places: &[u16], out: u16) -> bool
 {
     places
         .iter()
-        .all(|place| *place == out || !says(marks, *place, SHUT))
+        .all(|place| *place == out || !says(marks, *place as usize, SHUT))
 }
 
 // Whether the row at `out` is one of the conflict's with these places, and all the others are in.

@@ -74,7 +74,7 @@ impl Search<'_> {
             Left (lists_of self.now.conflicts.now) self.now.ins.now self.now.outs.now chosen result }
     {
         let out = self.outs[number];
-        if !says(marks, out, SHUT) {
+        if !says(marks, out as usize, SHUT) {
             return 0;
         }
         first_free(marks, self.conflicts, out).unwrap_or(0)
