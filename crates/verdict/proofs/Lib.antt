@@ -4,3 +4,8 @@ pub mod Shutting
 pub mod Laid
 pub mod Hopeless
 pub mod Climbing
+pub mod Bits
+pub mod Siding
+pub mod Marked
+pub mod Placed
+pub mod Judged

@@ -1,7 +1,9 @@
 -- What the search for choices has found out.
-use Rattle.std.specs.Prelude.{◌≡◌, ℕ, ◌<◌, ◌≤◌, true, List, ◌∷◌, [], ◌++◌, length, ◌-◌, slice_index, slice_index_or}
-use Rattle.cores.specs.Backing.{clear_places, one_of, backing, Works}
+use Rattle.std.specs.Prelude.{◌≡◌, ℕ, ◌<◌, ◌≤◌, Bool, true, Option, List, ◌∷◌, [], ◌++◌, length, ◌-◌, slice_index, slice_index_or}
+use Rattle.cores.specs.Backing.{clear_places, one_of, backing, Works, NoneWorks}
 use Rattle.cores.specs.Searching.{NoneBeyond}
+use Rattle.cores.specs.Settling.{SomeWay}
+use Rattle.cores.specs.Ways.{ins_of, outs_of, possible}
 use Rattle.verdict.specs.Marking.{Shows, Shuts}
 
 -- each choice is the number of one of n conflicts
@@ -32,3 +34,13 @@ pub record Found (C : List (List ℕ)) (ins outs marks : List ℕ) : Type 0 wher
   pub choices : List ℕ
   pub works : Works C ins outs choices
   pub shows : Shows (backing C ins outs choices) marks
+
+-- some way loses the line and can be, and the rows that show it are marked
+pub record Lost (C : List (List ℕ)) (lost : List Bool → Bool) (leaves : List (Option ℕ)) (marks : List ℕ) : Type 0 where
+  pub places : List ℕ
+  pub way : SomeWay C lost leaves places
+  pub shows : Shows places marks
+
+-- a way does not lose the line, or cannot be
+abbrev pub Kept : List (List ℕ) → (List Bool → Bool) → List (Option ℕ) → List Bool → Type 0
+Kept C lost leaves way = lost way ≡ true → possible leaves way ≡ true → NoneWorks C (ins_of leaves way) (outs_of leaves way)

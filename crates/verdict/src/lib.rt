@@ -10,7 +10,18 @@
 // Nothing is allocated, and nothing calls itself: six choices are all there can be.
 #![tactic(auto)]
 
+mod cases;
 mod guard;
+mod judging;
+mod locating;
 mod marks;
+mod outcome;
+mod refusal;
 mod search;
 mod settling;
+mod sides;
+mod writing;
+
+pub use judging::verdict;
+pub use outcome::Verdict;
+pub use refusal::Refusal;
