@@ -53,7 +53,7 @@ module _ (C : List (List ℕ)) (ins outs chosen marks : List ℕ) (shows : Shows
     left_of : (o : ℕ) (c : List ℕ) → fits C (backing C ins outs chosen) o c ≡ true → is_left marks o c ≡ true
     left_of o c fit = and_from (one_of c o) _ (and_parts (one_of c o) _ fit).0 (but_for (λ p. not (is_shut marks p)) o c ∙
         all_put (λ p. not (is_shut marks p)) (without o c) (λ p m. ap not (from_not (is_shut marks p) (λ h.
-            both_ways (fits C (backing C ins outs chosen) o c) (shut_out_lem C (backing C ins outs chosen) o c (any_put (shut_out C (backing C ins outs chosen)) m (told_shut p h))) fit))))
+        both_ways (fits C (backing C ins outs chosen) o c) (shut_out_lem C (backing C ins outs chosen) o c (any_put (shut_out C (backing C ins outs chosen)) m (told_shut p h))) fit))))
 
     -- some row that is to be out has no conflict left
     pub closed_stops : (o : ℕ) → one_of outs o ≡ true → any (is_left marks o) C ≡ false → NoneBeyond C ins outs chosen
@@ -92,7 +92,7 @@ fails_at p (x ∷ xs) h = ⊎_elim
 pub taken : (k : ℕ) (xs : List ℕ) {x : ℕ} → Memᴰ x (take k xs) → Memᴰ x xs
 taken zero xs m = elim m [ ]
 taken (suc k) [] m = m
-taken (suc k) (y ∷ xs) m = elim m [ | Memᴰ.head e ↦ Memᴰ.head e | Memᴰ.tail n ↦ Memᴰ.tail (taken k xs n) ]
+taken (suc k) (y ∷ xs) m = elim m [ Memᴰ.head e ↦ Memᴰ.head e | Memᴰ.tail n ↦ Memᴰ.tail (taken k xs n) ]
 
 pub dropped : (k : ℕ) (xs : List ℕ) {x : ℕ} → Memᴰ x (drop k xs) → Memᴰ x xs
 dropped zero xs m = m

@@ -79,7 +79,7 @@ in_range a (suc n) p low high = ⊎_elim
 
 range_from : (a n p : ℕ) → Memᴰ p (range_with_len a n) → a ≤ p
 range_from a zero p m = elim m [ ]
-range_from a (suc n) p m = elim m [ | Memᴰ.head e ↦ omega arith | Memᴰ.tail k ↦ let h = range_from (a + 1) n p k in omega arith ]
+range_from a (suc n) p m = elim m [ Memᴰ.head e ↦ omega arith | Memᴰ.tail k ↦ let h = range_from (a + 1) n p k in omega arith ]
 
 range_once : (a n : ℕ) → distinct nat_eq (range_with_len a n) ≡ true
 range_once a zero = refl

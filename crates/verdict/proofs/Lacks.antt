@@ -22,8 +22,8 @@ module _ (marks xs : List ℕ) (i : ℕ) (lt : i < length xs) where
     list_any_more (eqb p) xs i 0 lt ∙ ap (λ b. b || eqb p (get_or xs i 0)) has,
     out,
     ap (λ t. all (is_in marks) (without p t)) (take_more xs i 0 lt) ∙ ap (all (is_in marks)) (without_append p (take i xs) (get_or xs i 0 ∷ []))
-    ∙ list_all-append (is_in marks) (without p (take i xs)) (without p (get_or xs i 0 ∷ []))
-    ∙ and_from _ _ rest (all_without (is_in marks) p (get_or xs i 0 ∷ []) (and_from _ _ e refl)),
+        ∙ list_all-append (is_in marks) (without p (take i xs)) (without p (get_or xs i 0 ∷ []))
+        ∙ and_from _ _ rest (all_without (is_in marks) p (get_or xs i 0 ∷ []) (and_from _ _ e refl)),
   )
   lack_in More e h = list_all_more (is_in marks) xs i 0 lt ∙ ap (λ b. b && is_in marks (get_or xs i 0)) h
 
@@ -33,8 +33,8 @@ module _ (marks xs : List ℕ) (i : ℕ) (lt : i < length xs) where
     list_any_more (eqb (get_or xs i 0)) xs i 0 lt ∙ or_yes (one_of (take i xs) (get_or xs i 0)) _ (eq-eqb (get_or xs i 0) (get_or xs i 0) refl),
     out,
     ap (λ t. all (is_in marks) (without (get_or xs i 0) t)) (take_more xs i 0 lt) ∙ ap (all (is_in marks)) (without_append (get_or xs i 0) (take i xs) (get_or xs i 0 ∷ []))
-    ∙ list_all-append (is_in marks) (without (get_or xs i 0) (take i xs)) (without (get_or xs i 0) (get_or xs i 0 ∷ []))
-    ∙ and_from _ _ (all_without (is_in marks) (get_or xs i 0) (take i xs) h) (alone (get_or xs i 0)),
+        ∙ list_all-append (is_in marks) (without (get_or xs i 0) (take i xs)) (without (get_or xs i 0) (get_or xs i 0 ∷ []))
+        ∙ and_from _ _ (all_without (is_in marks) (get_or xs i 0) (take i xs) h) (alone (get_or xs i 0)),
   )
     where
       or_yes : (a b : Bool) → b ≡ true → (a || b) ≡ true

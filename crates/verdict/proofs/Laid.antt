@@ -35,7 +35,7 @@ module _ (C : List (List ℕ)) (ins outs : List ℕ) where
   shows_more choices before after k lt few shows adds p =
       let long : length (take k choices) ≡ k = length-take-le k choices (omega arith) in
       let pushed : backing C ins outs (take (k + 1) choices) ≡ backing C ins outs (take k choices) ++ without (get_or outs k 0) (get_or C (get_or choices k 0) []) =
-        ap (backing C ins outs) (take_more choices k 0 lt) ∙ push_marks C ins outs (take k choices) (get_or choices k 0) (omega arith)
-        ∙ ap (λ n. backing C ins outs (take k choices) ++ without (get_or outs n 0) (get_or C (get_or choices k 0) [])) long in
+      ap (backing C ins outs) (take_more choices k 0 lt) ∙ push_marks C ins outs (take k choices) (get_or choices k 0) (omega arith)
+      ∙ ap (λ n. backing C ins outs (take k choices) ++ without (get_or outs n 0) (get_or C (get_or choices k 0) [])) long in
       adds.in_too p ∙ ap (λ b. b || one_of (without (get_or outs k 0) (get_or C (get_or choices k 0) [])) p) (shows p)
       ∙ sym (one_append (backing C ins outs (take k choices)) (without (get_or outs k 0) (get_or C (get_or choices k 0) [])) p) ∙ ap (λ t. one_of t p) (sym pushed)

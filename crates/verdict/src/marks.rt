@@ -6,6 +6,7 @@ ghost use Rattle.verdict.specs.Lacking.{LackSays};
 
 // What a byte says of the row at its place: that it is in, or that rows that are in shut it out.
 pub const IN: u8 = 1;
+
 pub const SHUT: u8 = 2;
 
 // Whether the byte of a place says this.

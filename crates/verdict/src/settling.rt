@@ -48,9 +48,7 @@ fn others_in(marks: &[u8], places: &[u16], out: u16) -> bool
 fn others_left(marks: &[u8], places: &[u16], out: u16) -> bool
     ensures { result ≡ all (λ p. p == out || not (is_shut marks.now p)) places.now }
 {
-    places
-        .iter()
-        .all(|place| *place == out || !says(marks, *place as usize, SHUT))
+    places.iter().all(|place| *place == out || !says(marks, *place as usize, SHUT))
 }
 
 // Whether the row at `out` is one of the conflict's with these places, and all the others are in.

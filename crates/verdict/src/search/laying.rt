@@ -32,8 +32,7 @@ impl Search<'_> {
     fn are_open(&self, marks: &[u8], outs: &[u16]) -> bool
         ensures { result ≡ all (λ out. any (λ c. is_left marks.now out (listed_as c).places) self.now.conflicts.now) outs.now }
     {
-        outs.iter()
-            .all(|out| is_open(marks, self.conflicts, *out))
+        outs.iter().all(|out| is_open(marks, self.conflicts, *out))
     }
 
     // Marks what these choices ask for, and tells whether the search can go on from there.
@@ -60,10 +59,8 @@ impl Search<'_> {
             (NoneBeyond (lists_of self.now.conflicts.now) self.now.ins.now self.now.outs.now choices.now) }
     {
         let last = choices.len() - 1;
-        touches(
-            self.conflicts[choices[last]].places(),
-            self.outs[last],
-        ) && self.stands(marks, choices)
+        touches(self.conflicts[choices[last]].places(), self.outs[last])
+            && self.stands(marks, choices)
     }
 
     // The first conflict to try for the row with this number, where the choices before it stand: one that asks for nothing
@@ -92,11 +89,7 @@ impl Search<'_> {
         let last = choices.len() - 1;
         self.lay(marks, &choices[..last]);
         let choice = choices[last];
-        if is_free(
-            marks,
-            self.conflicts[choice].places(),
-            self.outs[last],
-        ) {
+        if is_free(marks, self.conflicts[choice].places(), self.outs[last]) {
             return self.conflicts.len();
         }
         choice + 1

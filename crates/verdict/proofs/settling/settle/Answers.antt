@@ -25,17 +25,17 @@ loop-conflict-preserved c =
     let h = c.loop-conflict.invariant in
     elim c.match-lacking.branch [
       | in-One w ↦
-      let one = w.in-One.ensures in
-      let lt = byte_of places w.in-One.place (all_listed cs i x c.loop-conflict-test.true c.conflict-item.is places c.places.ensures c.requires.inside) one.0 in
-      let room : w.in-One.place < length c.loop-conflict.marks = omega arith in
-      rw w.marks-is (record {
-        clear = clear_more cs i x c.loop-conflict-test.true c.conflict-item.is places c.places.ensures (is_in c.args.marks.now) h.clear (subst (λ S. all S places ≡ false) (alike h.same) (one_out (is_in c.loop-conflict.marks) w.in-One.place places one.0 one.1));
-        same = λ p. in_still cs i x c.loop-conflict-test.true c.conflict-item.is places c.places.ensures c.loop-conflict.marks w.in-One.place room one.0 one.1 one.2 p ∙ h.same p;
-        shuts = shuts_more cs i x c.loop-conflict-test.true c.conflict-item.is places c.places.ensures c.loop-conflict.marks w.in-One.place room one.0 one.1 one.2 h.shuts;
-      })
+          let one = w.in-One.ensures in
+          let lt = byte_of places w.in-One.place (all_listed cs i x c.loop-conflict-test.true c.conflict-item.is places c.places.ensures c.requires.inside) one.0 in
+          let room : w.in-One.place < length c.loop-conflict.marks = omega arith in
+          rw w.marks-is (record {
+            clear = clear_more cs i x c.loop-conflict-test.true c.conflict-item.is places c.places.ensures (is_in c.args.marks.now) h.clear (subst (λ S. all S places ≡ false) (alike h.same) (one_out (is_in c.loop-conflict.marks) w.in-One.place places one.0 one.1));
+            same = λ p. in_still cs i x c.loop-conflict-test.true c.conflict-item.is places c.places.ensures c.loop-conflict.marks w.in-One.place room one.0 one.1 one.2 p ∙ h.same p;
+            shuts = shuts_more cs i x c.loop-conflict-test.true c.conflict-item.is places c.places.ensures c.loop-conflict.marks w.in-One.place room one.0 one.1 one.2 h.shuts;
+          })
       | in-More w ↦ rw w.marks-is (record {
-          clear = clear_more cs i x c.loop-conflict-test.true c.conflict-item.is places c.places.ensures (is_in c.args.marks.now) h.clear (subst (λ S. all S places ≡ false) (alike h.same) w.in-More.ensures);
-          same = h.same;
-          shuts = h.shuts;
-        })
+        clear = clear_more cs i x c.loop-conflict-test.true c.conflict-item.is places c.places.ensures (is_in c.args.marks.now) h.clear (subst (λ S. all S places ≡ false) (alike h.same) w.in-More.ensures);
+        same = h.same;
+        shuts = h.shuts;
+      })
     ]

@@ -39,13 +39,13 @@ loop-place-preserved g c =
     let table = (g.S.Source.model c.args.source.now).places in
     elim c.if-says.branch [
       | then-says+in-Some w ↦
-      let lt : c.loop-place.place < length table = search rules in
-      let one = one_room c.args.marks.now c.loop-place.place (length table) lt (sym w.if-says.ensures) in
-      let few = c.loop-place.invariant.few in
-      let all = c.requires.few in
-      let room = c.requires.room in
-      let inside : c.loop-place.count < length c.loop-place.core = omega arith in
-      rw (w.core-is, w.count-is) (write_one table c.args.marks.now _ _ _ _ c.loop-place.invariant (sym w.if-says.ensures) w.in-Some.row inside (sym w.in-Some.ensures))
+          let lt : c.loop-place.place < length table = search rules in
+          let one = one_room c.args.marks.now c.loop-place.place (length table) lt (sym w.if-says.ensures) in
+          let few = c.loop-place.invariant.few in
+          let all = c.requires.few in
+          let room = c.requires.room in
+          let inside : c.loop-place.count < length c.loop-place.core = omega arith in
+          rw (w.core-is, w.count-is) (write_one table c.args.marks.now _ _ _ _ c.loop-place.invariant (sym w.if-says.ensures) w.in-Some.row inside (sym w.in-Some.ensures))
       | then-says+in_default w ↦ rw (w.core-is, w.count-is) (write_none table c.args.marks.now _ _ _ _ c.loop-place.invariant (sym w.if-says.ensures) (sym w.read.ensures ∙ w.in_default.is))
       | else-says w ↦ rw (w.core-is, w.count-is) (write_out table c.args.marks.now _ _ _ _ c.loop-place.invariant (sym w.if-says.ensures))
     ]

@@ -130,4 +130,3 @@ returns-then-depth-eq0 c =
     let d = c.loop-choices.depth in
     let st = c.loop-choices.invariant.stack in
     none C ins outs xs d st (let h = c.loop-choices-test.false in omega (arith, length-map cs (λ x. (listed_as x).places))) c.if-depth-eq0.true
-
