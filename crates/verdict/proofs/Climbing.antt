@@ -1,12 +1,11 @@
 -- The stack of choices: what is left to try at each, and why it comes to an end.
-use Rattle.std.proofs.Common.{◌≡◌, ℕ, zero, suc, ◌+◌, ◌-◌, ◌*◌, ◌^◌, ◌<◌, ◌≤◌, Bool, true, List, [], ◌∷◌, ◌++◌, length, get_or, take, set, sym, refl, ap, ◌∙◌, subst, ⊎_elim, ◌≢◌, arith, append_assoc, length-append, length-set, length-take-le, get_or-set_same, get_or-set_other}
+use Rattle.std.proofs.Common.{◌≡◌, ℕ, zero, suc, ◌+◌, ◌-◌, ◌*◌, ◌^◌, ◌<◌, ◌≤◌, true, List, [], ◌∷◌, ◌++◌, length, get_or, take, set, sym, ap, ◌∙◌, subst, ⊎_elim, ◌≢◌, arith, append_assoc, length-set, length-take-le, get_or-set_same, get_or-set_other}
 use Rattle.std.proofs.lemmas.Bool.{cases_eq}
 use Rattle.std.proofs.lemmas.List.{take_more, take-set-le, get_or-take, append-nil, take-take}
 use Rattle.std.proofs.Math.Nat.{mul-le-mul_right, add-mul, pow-suc, pow-zero, mul_comm, one-mul}
-use Rattle.cores.specs.Backing.{one_of, clear_places, backing, Real, Works, NoneWorks}
+use Rattle.cores.specs.Backing.{one_of, Real, NoneWorks}
 use Rattle.cores.specs.Searching.{NoneBeyond}
 use Rattle.cores.proofs.Chosen.{push_real}
-use Rattle.verdict.specs.Marking.{Shows}
 use Rattle.verdict.specs.Trying.{Left, Follows, Admits, Found, Numbers}
 
 -- how much is left to try: p is the front with the choice that is tried, for s rows

@@ -1,14 +1,14 @@
 -- Choices beyond which nothing works, and what is left to try.
-use Rattle.std.proofs.Common.{◌≡◌, ℕ, zero, suc, ◌+◌, ◌<◌, ◌≤◌, Bool, true, false, not, ◌&&◌, ◌||◌, eqb, List, [], ◌∷◌, ◌++◌, map, length, get_or, take, drop, Some, None, Option, unwrap_or, MatchOption, MatchBool, sym, refl, ap, ◌∙◌, subst, arith, length-append, ⊎_elim, ◌≢◌}
+use Rattle.std.proofs.Common.{◌≡◌, ℕ, zero, suc, ◌+◌, ◌<◌, Bool, true, false, not, ◌&&◌, ◌||◌, List, [], ◌∷◌, ◌++◌, length, get_or, take, drop, Some, None, Option, unwrap_or, MatchOption, MatchBool, sym, refl, ap, ◌∙◌, subst, arith, length-append, ⊎_elim, ◌≢◌}
 use Rattle.std.specs.Prelude.{⊤}
 use mathlib.Core.List.{Memᴰ}
 use Rattle.std.proofs.lemmas.Bool.{both_ways, and_parts, and_from, cases_eq, cases_Bool}
 use Rattle.std.proofs.lemmas.List.{length-map}
 use Rattle.store.specs.Lists.{any, all}
-use Rattle.store.proofs.Tests.{from_not, any_pick, any_put, all_at, all_put}
+use Rattle.store.proofs.Tests.{from_not, any_pick, any_put, all_put}
 use Rattle.rules.specs.Views.{listed_as}
 use Rattle.rules.specs.declared.conflict.Conflict.{Conflict}
-use Rattle.cores.specs.Backing.{one_of, clear_places, without, backing, Works}
+use Rattle.cores.specs.Backing.{one_of, clear_places, without, backing, NoneWorks}
 use Rattle.cores.specs.Searching.{NoneBeyond, fits, is_free, shut_out}
 use Rattle.rules.proofs.Ascents.{place_has}
 use Rattle.cores.proofs.Turning.{blocked, none_fits, each_tried, free_is_best, shut_out_lem}
@@ -116,3 +116,13 @@ first_left cs ins outs chosen marks n shows long next None h = all_left (lists_o
 first_left cs ins outs chosen marks n shows long next (Some c) h =
     free_left (lists_of cs) ins outs chosen marks shows (omega arith) c (let lt = h.0 in omega (arith, length-map cs (λ x. (listed_as x).places)))
     (subst (λ m. lacks_only (is_in marks) (get_or outs m 0) (get_or (lists_of cs) c []) ≡ true) (sym long) h.1)
+
+-- a row that is to be out is in no conflict
+pub unbound_stops : (cs : List Conflict) (ins outs : List ℕ) → all (λ out. any (λ c. one_of (listed_as c).places out) cs) outs ≡ false → NoneWorks (lists_of cs) ins outs
+unbound_stops cs ins outs h =
+    let (o, m, none) = fails_at (λ out. any (λ c. one_of (listed_as c).places out) cs) outs h in
+    let C = lists_of cs in
+    none_fits C ins outs [] (backing C ins outs []) (λ p. refl) o (place_has m)
+    (from_not (any (fits C (backing C ins outs []) o) C) (λ k.
+    let (c, n, fit) = any_pick (fits C (backing C ins outs []) o) C k in
+    both_ways (any (λ (d : List ℕ). one_of d o) C) (sym (any_lists (λ d. one_of d o) cs) ∙ none) (any_put (λ (d : List ℕ). one_of d o) n (and_parts (one_of c o) _ fit).0)))

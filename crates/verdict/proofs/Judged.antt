@@ -1,5 +1,5 @@
 -- What is found over places is the verdict over rows.
-use Rattle.std.proofs.Common.{◌≡◌, ℕ, zero, suc, ◌+◌, ◌<◌, ◌≤◌, Bool, true, false, not, ◌&&◌, nat_eq, leb, ltb, List, [], ◌∷◌, ◌++◌, map, length, take, filter, get_or, Some, None, Option, sym, refl, ap, ◌∙◌, subst, ⊎_elim, arith, length-take}
+use Rattle.std.proofs.Common.{◌≡◌, ℕ, zero, suc, ◌+◌, ◌<◌, ◌≤◌, true, nat_eq, leb, ltb, List, [], ◌∷◌, map, length, get_or, None, Option, sym, refl, ap, ◌∙◌, subst, ⊎_elim, arith, length-take}
 use mathlib.Core.List.{Memᴰ}
 use Rattle.std.specs.List.{range_with_len}
 use Rattle.std.proofs.lemmas.Bool.{both_ways, lt-ltb, le-leb, eqb-true, cases_lt, cases_eq}
@@ -7,7 +7,7 @@ use Rattle.std.proofs.lemmas.List.{get_or_past}
 use Rattle.std.proofs.lemmas.Simd.{map-map}
 use Rattle.fault.specs.Questions.{ask}
 use Rattle.store.specs.Held.{rows_of}
-use Rattle.store.specs.Lists.{any, all}
+use Rattle.store.specs.Lists.{all}
 use Rattle.store.specs.Store.{Store, Kept}
 use Rattle.store.specs.declared.row.Row.{Row}
 use Rattle.store.proofs.Tests.{same_tests, all_at, all_put}
@@ -26,14 +26,13 @@ use Rattle.plan.specs.declared.node.Node.{Node}
 use Rattle.plan.specs.declared.plan.Plan.{Plan}
 use Rattle.answers.specs.Asking.{leaves_no, line_no, or_then}
 use Rattle.cores.specs.Backing.{one_of, Small, all_held, HeldIn}
-use Rattle.cores.specs.Settling.{listed_places, Located, lost_by, SomeWay, NoWay}
+use Rattle.cores.specs.Settling.{listed_places, Located, lost_by, NoWay}
 use Rattle.cores.specs.Sure.{Sure, Core}
-use Rattle.cores.specs.Ways.{ins_of, outs_of}
 use Rattle.cores.proofs.Coring.{core_by_places}
 use Rattle.cores.proofs.Few.{few_marked, different}
 use Rattle.cores.proofs.Standing.{held_marked}
 use Rattle.cores.proofs.Surely.{sure_by_places}
-use Rattle.verdict.specs.Marking.{lists_of, have_bytes, is_in, Shows}
+use Rattle.verdict.specs.Marking.{lists_of, have_bytes, is_in}
 use Rattle.verdict.specs.Trying.{Lost}
 use Rattle.verdict.specs.Verdicts.{marked_of, unless_asked, verdict_no, conflicts_of}
 use Rattle.verdict.specs.declared.refusal.Refusal.TheVariants.{FewMarks, FewRows}

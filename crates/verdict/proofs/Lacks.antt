@@ -1,9 +1,9 @@
 -- What a conflict lacks, one place on.
-use Rattle.std.proofs.Common.{◌≡◌, ℕ, ◌+◌, ◌<◌, Bool, true, false, ◌&&◌, ◌||◌, eqb, List, [], ◌∷◌, ◌++◌, length, get_or, take, sym, refl, ap, ◌∙◌, subst, arith}
-use Rattle.std.proofs.lemmas.Bool.{and_parts, and_from, eq-eqb}
+use Rattle.std.proofs.Common.{◌≡◌, ℕ, ◌+◌, ◌<◌, Bool, true, false, ◌&&◌, ◌||◌, eqb, List, [], ◌∷◌, length, get_or, take, refl, ap, ◌∙◌, arith}
+use Rattle.std.proofs.lemmas.Bool.{and_from, eq-eqb}
 use Rattle.std.proofs.lemmas.List.{take_more}
-use Rattle.std.proofs.lemmas.List.Folds.{list_any-append, list_all-append, list_all_more, list_any_more}
-use Rattle.store.specs.Lists.{any, all}
+use Rattle.std.proofs.lemmas.List.Folds.{list_all-append, list_all_more, list_any_more}
+use Rattle.store.specs.Lists.{all}
 use Rattle.cores.specs.Backing.{one_of, without}
 use Rattle.verdict.specs.Marking.{is_in}
 use Rattle.verdict.specs.Lacking.{LackSays}

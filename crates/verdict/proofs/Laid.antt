@@ -1,10 +1,10 @@
 -- What is marked after the first choices.
-use Rattle.std.proofs.Common.{◌≡◌, ℕ, ◌+◌, ◌<◌, ◌≤◌, Bool, true, false, ◌||◌, eqb, ltb, List, [], ◌∷◌, ◌++◌, length, get_or, take, replicate, sym, refl, ap, ◌∙◌, subst, ⊎_elim, arith}
+use Rattle.std.proofs.Common.{◌≡◌, ℕ, ◌+◌, ◌<◌, ◌≤◌, false, ◌||◌, eqb, List, [], ◌∷◌, ◌++◌, length, get_or, take, replicate, sym, refl, ap, ◌∙◌, ⊎_elim, arith}
 use Rattle.std.proofs.lemmas.Bool.{cases_lt}
 use Rattle.std.proofs.lemmas.List.{take_more, get_or_past, get_or-replicate, length-replicate, length-take-le, append-nil}
 use Rattle.cores.specs.Backing.{one_of, without, others, backing}
 use Rattle.cores.proofs.Others.{push_marks}
-use Rattle.verdict.specs.Marking.{is_in, is_shut, Shows, NoneShut, Adds}
+use Rattle.verdict.specs.Marking.{is_in, Shows, NoneShut, Adds}
 use Rattle.verdict.proofs.Places.{one_append}
 
 -- bytes that are all zero

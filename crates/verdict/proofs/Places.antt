@@ -1,12 +1,12 @@
 -- One place more, among places and in the mark bytes.
-use Rattle.std.proofs.Common.{◌≡◌, ℕ, zero, suc, ◌+◌, ◌<◌, ◌≤◌, Bool, true, false, not, ◌&&◌, ◌||◌, eqb, ◌≢◌, List, [], ◌∷◌, ◌++◌, length, get_or, take, set, cond, sym, refl, ap, ◌∙◌, subst, ⊎_elim, arith, get_or-set_other, get_or-set_same, true≢false, append_assoc}
+use Rattle.std.proofs.Common.{◌≡◌, ℕ, zero, suc, ◌+◌, ◌<◌, ◌≤◌, Bool, true, false, not, ◌&&◌, ◌||◌, eqb, ◌≢◌, List, [], ◌∷◌, ◌++◌, length, get_or, take, set, cond, sym, refl, ap, ◌∙◌, subst, ⊎_elim, arith, get_or-set_other, get_or-set_same}
 use Rattle.std.proofs.Math.Bool.{or_assoc}
 use Rattle.std.proofs.lemmas.Bool.{both_ways, and_parts, and_from, eq-eqb, ne_eqb, cases_eq, eqb-true, ltb-true}
-use Rattle.std.proofs.lemmas.List.{take_more, get_or_past, length-replicate}
-use Rattle.std.proofs.lemmas.List.Folds.{list_any-append, list_all-append}
-use Rattle.store.specs.Lists.{any, all}
+use Rattle.std.proofs.lemmas.List.{take_more}
+use Rattle.std.proofs.lemmas.List.Folds.{list_any-append}
+use Rattle.store.specs.Lists.{all}
 use Rattle.cores.specs.Backing.{one_of, without}
-use Rattle.verdict.specs.Marking.{have_bytes, is_in, is_shut, NoneShut, Adds}
+use Rattle.verdict.specs.Marking.{have_bytes, is_in, Adds}
 
 or_none : (a : Bool) → (a || false) ≡ a
 or_none true = refl

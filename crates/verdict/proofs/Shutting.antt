@@ -1,5 +1,5 @@
 -- One conflict more is looked at, and what it tells of the rows that are shut out.
-use Rattle.std.proofs.Common.{◌≡◌, ℕ, zero, suc, ◌+◌, ◌<◌, Bool, true, false, not, ◌&&◌, ◌||◌, eqb, ◌≢◌, List, [], ◌∷◌, ◌++◌, map, length, get_or, take, set, sym, refl, ap, ◌∙◌, subst, ⊎_elim, arith, get_or-set_other, get_or-set_same}
+use Rattle.std.proofs.Common.{◌≡◌, ℕ, zero, suc, ◌+◌, ◌<◌, Bool, true, false, not, ◌||◌, eqb, ◌≢◌, List, [], ◌∷◌, ◌++◌, length, get_or, take, set, sym, refl, ap, ◌∙◌, subst, ⊎_elim, arith, get_or-set_other, get_or-set_same}
 use Rattle.std.proofs.lemmas.Bool.{both_ways, and_parts, and_from, cases_eq}
 use Rattle.std.proofs.lemmas.List.{take_more, get_or-map, length-map}
 use Rattle.std.proofs.lemmas.List.Folds.{list_any-append}
@@ -8,7 +8,7 @@ use Rattle.store.proofs.Scans.{any_here}
 use Rattle.rules.specs.Views.{listed_as}
 use Rattle.rules.specs.declared.conflict.Conflict.{Conflict}
 use Rattle.cores.specs.Backing.{one_of, clear_places, without}
-use Rattle.verdict.specs.Marking.{lists_of, have_bytes, is_in, is_shut, lacks_only, NoneShut, Shuts}
+use Rattle.verdict.specs.Marking.{lists_of, have_bytes, is_in, lacks_only, Shuts}
 use Rattle.verdict.proofs.Places.{but_for}
 
 -- sets that have the same places are the same

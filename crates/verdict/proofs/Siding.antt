@@ -1,13 +1,11 @@
 -- A way that is tried.
-use Rattle.std.proofs.Common.{◌≡◌, ℕ, ◌*◌, ◌^◌, ◌%◌, ◌<◌, ◌≤◌, Bool, true, false, not, ◌&&◌, cond, List, [], ◌∷◌, ◌++◌, length, Some, None, Option, MatchBool, sym, refl, ap, ◌∙◌, subst, arith}
+use Rattle.std.proofs.Common.{◌≡◌, ℕ, ◌≤◌, Bool, true, false, List, [], ◌∷◌, length, Some, None, Option, MatchBool, sym, refl, ap, ◌∙◌, subst}
 use Rattle.std.proofs.lemmas.Bool.{and_parts, and_from}
 use Rattle.std.proofs.lemmas.List.Folds.{list_all-append}
-use Rattle.store.specs.Lists.{all}
 use Rattle.cores.specs.Backing.{backing, Works, NoneWorks}
-use Rattle.cores.specs.Settling.{SomeWay}
 use Rattle.cores.specs.Ways.{place_if, ins_of, outs_of, possible}
 use Rattle.verdict.specs.LeafPlaces.{has_byte, leaves_have_bytes}
-use Rattle.verdict.specs.Marking.{have_bytes, Shows}
+use Rattle.verdict.specs.Marking.{have_bytes}
 use Rattle.verdict.specs.Trying.{Found, Lost, Kept}
 
 -- the places of the rows that are in have mark bytes

@@ -1,5 +1,5 @@
 -- The two sides of a way.
-use Rattle.std.specs.Prelude.{◌≡◌, ℕ, Bool, true, List, Option, Some, None, nat_lt}
+use Rattle.std.specs.Prelude.{◌≡◌, ℕ, Bool, true, List, Option}
 use Rattle.ordered.specs.Lists.{items_in}
 use Rattle.cores.specs.Ways.{ins_of, outs_of, possible}
 use Rattle.verdict.specs.declared.sides.Sides.{Sides}

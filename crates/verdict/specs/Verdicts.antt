@@ -1,5 +1,5 @@
 -- What a verdict says.
-use Rattle.std.specs.Prelude.{◌≡◌, ℕ, Bool, List, map, length, take, drop, filter, Some, None, Ok, Err, Option, Result, nat_le}
+use Rattle.std.specs.Prelude.{◌≡◌, ℕ, List, map, length, take, drop, filter, Some, None, Ok, Err, Option, Result, nat_le}
 use Rattle.std.specs.List.{range_with_len}
 use Rattle.fault.specs.Questions.{ask}
 use Rattle.store.specs.Held.{rows_of}

@@ -4,7 +4,7 @@
 // these rows: at most 64. A way that would make the line no answer can be where each row that is out, and held, has a conflict
 // whose other rows can all be in, together with the rows that are in and without a whole conflict; all of these rows are then
 // a core. So the rows that are out are gone through, and for each its conflicts, and the rows that have to be in are marked.
-// Three things cut the search. A choice after which a whole conflict is marked is given up at once. A row that has a conflict
+// Four things cut the search. A row that is to be out and is in no conflict ends it before it begins. A choice after which a whole conflict is marked is given up at once. A row that has a conflict
 // whose other rows are all marked already is given that one alone, since no other asks less. And a choice that leaves no
 // conflict to some later row that is out is given up before the rows between are looked at.
 // Nothing is allocated, and nothing calls itself: six choices are all there can be.

@@ -35,6 +35,15 @@ pub fn touches(places: &[u16], out: u16) -> bool
     places.iter().any(|place| out == *place)
 }
 
+// Whether the row at this place is in some conflict.
+pub fn is_bound(conflicts: &[Conflict], out: u16) -> bool
+    ensures { result ≡ any (λ c. one_of (listed_as c).places out) conflicts.now }
+{
+    conflicts
+        .iter()
+        .any(|conflict| touches(conflict.places(), out))
+}
+
 // Whether the rows at these places are in, but for the one at `out`.
 fn others_in(marks: &[u8], places: &[u16], out: u16) -> bool
     ensures { result ≡ all (λ p. p == out || is_in marks.now p) places.now }

@@ -2,14 +2,14 @@
 ghost use Rattle.std.specs.Prelude.{◌≡◌, ℕ, ◌<◌, ◌≤◌, ◌-◌, true, MatchBool, List, [], length, take, slice_index, slice_index_or};
 ghost use Rattle.store.specs.Lists.{any, all};
 ghost use Rattle.rules.specs.Views.{listed_as};
-ghost use Rattle.cores.specs.Backing.{backing};
+ghost use Rattle.cores.specs.Backing.{backing, one_of};
 ghost use Rattle.cores.specs.Searching.{NoneBeyond};
 ghost use Rattle.verdict.specs.Marking.{lists_of, is_left, Shows, NoneShut};
 ghost use Rattle.verdict.specs.Trying.{Numbers, Stand, Admits, Left, Follows};
 
 use super::Search;
 use crate::marks::{SHUT, mark_each, mark_others, says, wipe};
-use crate::settling::{first_free, is_free, is_open, settle, touches};
+use crate::settling::{first_free, is_bound, is_free, is_open, settle, touches};
 
 impl Search<'_> {
     // Marks the rows that are to be in, and for each of these choices, which are made for the first rows that are to be out,
@@ -26,6 +26,13 @@ impl Search<'_> {
         for (k, choice) in choices.iter().enumerate() {
             mark_others(marks, self.conflicts[*choice].places(), self.outs[k]);
         }
+    }
+
+    // Whether each row that is to be out is in some conflict: a row that is in none is in every reading.
+    pub fn are_bound(&self) -> bool
+        ensures { result ≡ all (λ out. any (λ c. one_of (listed_as c).places out) self.now.conflicts.now) self.now.outs.now }
+    {
+        self.outs.iter().all(|out| is_bound(self.conflicts, *out))
     }
 
     // Whether each of these rows can still be shut out.

@@ -15,6 +15,9 @@ impl Search<'_> {
             (Found (lists_of self.now.conflicts.now) self.now.ins.now self.now.outs.now marks.new)
             (NoneWorks (lists_of self.now.conflicts.now) self.now.ins.now self.now.outs.now) }
     {
+        if !self.are_bound() {
+            return false;
+        }
         if !self.stands(marks, &[]) {
             return false;
         }

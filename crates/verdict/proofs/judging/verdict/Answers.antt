@@ -1,4 +1,4 @@
-use Rattle.std.proofs.Common.{◌≡◌, ℕ, ◌≤◌, true, length, take, sym, refl, ap, ◌∙◌, subst, arith, length-take-le}
+use Rattle.std.proofs.Common.{◌≡◌, true, length, sym, refl, subst, length-take-le}
 use Rattle.rules.specs.Entries.{listing}
 use Rattle.plan.specs.Plans.{nodes_of}
 use Rattle.plan.specs.Truths.{named_rows}

@@ -1,4 +1,4 @@
-use Rattle.std.proofs.Common.{◌≡◌, ℕ, ◌+◌, ◌<◌, true, false, sym, ◌∙◌, ap, subst, arith, length, get_or}
+use Rattle.std.proofs.Common.{◌≡◌, ◌<◌, true, false, sym, ◌∙◌, subst, arith, length}
 use Rattle.store.specs.Lists.{all}
 use Rattle.verdict.specs.Marking.{is_in}
 use Rattle.verdict.proofs.Places.{byte_of, one_out}

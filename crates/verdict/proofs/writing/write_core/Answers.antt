@@ -1,5 +1,4 @@
-use Rattle.std.proofs.Common.{◌≡◌, ℕ, ◌+◌, ◌<◌, ◌≤◌, true, false, List, length, get_or, None, sym, ◌∙◌, arith, rules}
-use Rattle.verdict.specs.Marking.{is_in}
+use Rattle.std.proofs.Common.{◌<◌, length, sym, ◌∙◌, arith, rules}
 use Rattle.verdict.proofs.Marked.{one_room, write_out, write_none, write_one}
 use Rattle.verdict.proofs.writing.write_core.Goals as goal
 use Rattle.verdict.proofs.writing.write_core.Goals.{then-says+in-Some, then-says+in_default, else-says}

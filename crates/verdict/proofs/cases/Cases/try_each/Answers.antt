@@ -1,4 +1,4 @@
-use Rattle.std.proofs.Common.{◌≡◌, ℕ, ◌<◌, ◌≤◌, ◌^◌, length, below_more, arith, subst}
+use Rattle.std.proofs.Common.{length, below_more, arith}
 use Rattle.cores.proofs.Numbers.{every_way}
 use Rattle.verdict.specs.Marking.{lists_of}
 use Rattle.verdict.proofs.Bits.{shifted}

@@ -1,6 +1,5 @@
-use Rattle.std.proofs.Common.{◌≡◌, ℕ, ◌≤◌, Bool, true, not, length, sym, ap, ◌∙◌, subst, arith, MatchBool}
+use Rattle.std.proofs.Common.{◌≤◌, not, length, sym, ap, ◌∙◌, subst, arith, MatchBool}
 use Rattle.cores.specs.Settling.{lost_by}
-use Rattle.cores.specs.Ways.{bits}
 use Rattle.verdict.specs.Marking.{lists_of, have_bytes}
 use Rattle.verdict.specs.Trying.{Lost, Kept}
 use Rattle.verdict.proofs.Siding.{ins_bytes, way_says}

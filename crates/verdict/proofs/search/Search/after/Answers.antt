@@ -1,4 +1,4 @@
-use Rattle.std.proofs.Common.{◌≡◌, ◌-◌, ◌<◌, ℕ, true, List, [], length, get_or, take, sym, ap, ◌∙◌, subst, arith, length-take-le}
+use Rattle.std.proofs.Common.{◌≡◌, ◌-◌, ◌<◌, true, [], length, get_or, take, sym, ap, ◌∙◌, subst, arith, length-take-le}
 use Rattle.rules.specs.Views.{listed_as}
 use Rattle.verdict.specs.Marking.{lists_of, is_in, lacks_only}
 use Rattle.verdict.proofs.Hopeless.{free_last, next_left}

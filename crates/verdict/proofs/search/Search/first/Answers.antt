@@ -1,6 +1,5 @@
-use Rattle.std.proofs.Common.{◌≡◌, ◌<◌, ℕ, List, [], length, get_or, sym, ap, ◌∙◌, subst, arith, MatchOption}
-use Rattle.std.specs.Prelude.{⊤}
-use Rattle.verdict.specs.Marking.{lists_of, is_in, lacks_only}
+use Rattle.std.proofs.Common.{◌<◌, length, arith}
+use Rattle.verdict.specs.Marking.{lists_of}
 use Rattle.verdict.proofs.Hopeless.{all_left, first_left}
 use Rattle.verdict.proofs.search.Search.first.Goals as goal
 

@@ -1,4 +1,4 @@
-use Rattle.std.proofs.Common.{◌≡◌, ℕ, List, [], length, get_or, sym, ap, ◌∙◌, subst}
+use Rattle.std.proofs.Common.{length, get_or, sym, ap, ◌∙◌, subst}
 use Rattle.rules.specs.Views.{listed_as}
 use Rattle.cores.specs.Backing.{without}
 use Rattle.verdict.specs.Marking.{lists_of, NoneShut, Adds}

@@ -1,9 +1,9 @@
-use Rattle.std.proofs.Common.{◌≡◌, ℕ, ◌+◌, ◌-◌, ◌<◌, ◌≤◌, List, [], ◌∷◌, ◌++◌, length, get_or, take, sym, ap, ◌∙◌, subst, arith}
+use Rattle.std.proofs.Common.{◌≡◌, ◌+◌, ◌-◌, ◌<◌, ◌≤◌, length, get_or, take, sym, ◌∙◌, subst, arith}
 use Rattle.std.proofs.lemmas.List.{length-map}
 use Rattle.rules.specs.Views.{listed_as}
 use Rattle.cores.specs.Searching.{NoneBeyond}
 use Rattle.verdict.specs.Marking.{lists_of}
-use Rattle.verdict.proofs.Hopeless.{next_left}
+use Rattle.verdict.proofs.Hopeless.{next_left, unbound_stops}
 use Rattle.verdict.proofs.Climbing.{front, long_front, go_next, fall_next, whole, go_down, fall_down, none, lower, back_left, fall_back, follows_last, at_last_one, le_after, lt_after}
 use Rattle.verdict.proofs.search.Search.seek.Goals as goal
 
@@ -130,3 +130,6 @@ returns-then-depth-eq0 c =
     let d = c.loop-choices.depth in
     let st = c.loop-choices.invariant.stack in
     none C ins outs xs d st (let h = c.loop-choices-test.false in omega (arith, length-map cs (λ x. (listed_as x).places))) c.if-depth-eq0.true
+
+pub returns-then-not-are_bound : goal.returns-then-not-are_bound
+returns-then-not-are_bound c = unbound_stops c.args.self.now.conflicts.now c.args.self.now.ins.now c.args.self.now.outs.now (sym c.are_bound.ensures ∙ c.if-not-are_bound.true)
