@@ -9,3 +9,4 @@ pub mod Siding
 pub mod Marked
 pub mod Placed
 pub mod Judged
+pub mod Turned

@@ -17,6 +17,12 @@ use plan::{Line, Plan};
 use rules::Conflicts;
 use store::{Row, Source};
 
+// One for each place that a source can have.
+const MARK_BYTES: usize = 256;
+
+// As many rows as a core can have: of each of six leaves one row that is in, or two others of a conflict.
+const CORE_ROWS: usize = 12;
+
 // Whether every reading of the source's rows, by the listed conflicts, has the line as an answer of the plan. The mark bytes
 // are the search's while it runs, and zero afterwards; where the line is not sure, the rows of a core are written to `core`.
 pub fn verdict<S: Source>(
@@ -34,10 +40,10 @@ pub fn verdict<S: Source>(
     let guard = Marks { bytes: marks };
     check_leaves(source, plan)?;
     check_line(plan, line)?;
-    if guard.bytes.len() < 256 {
+    if guard.bytes.len() < MARK_BYTES {
         return Err(Refusal::FewMarks);
     }
-    if core.len() < 12 {
+    if core.len() < CORE_ROWS {
         return Err(Refusal::FewRows);
     }
     let leaves = locate(source, plan, line);

@@ -5,6 +5,7 @@ ghost use Rattle.verdict.specs.Marking.{lists_of, have_bytes};
 
 use rules::Conflict;
 
+pub mod ahead;
 pub mod laying;
 pub mod seeking;
 
@@ -16,5 +17,5 @@ pub struct Search<'a> {
     pub outs: &'a [u16],
     ghost inside: { all have_bytes (lists_of conflicts.now) ≡ true },
     ghost near: { have_bytes ins.now ≡ true },
-    ghost few: { length outs.now ≤ 6 },
+    ghost few: { length outs.now ≤ 7 },
 }

@@ -10,7 +10,8 @@ impl Search<'_> {
     // Whether the rows that are to be in, and for each row that is to be out the others of some conflict of it, can all be in
     // with no whole conflict; then these are marked.
     pub fn seek(&self, marks: &mut [u8]) -> bool
-        requires { 256 ≤ length marks.old }
+        requires room { 256 ≤ length marks.old }
+        requires six { length self.now.outs.now ≤ 6 }
         ensures { MatchBool result
             (Found (lists_of self.now.conflicts.now) self.now.ins.now self.now.outs.now marks.new)
             (NoneWorks (lists_of self.now.conflicts.now) self.now.ins.now self.now.outs.now) }

@@ -38,7 +38,7 @@ returns-then-not-try_each-clause-says g c =
     let columns = c.args.line.now.columns in
     let leaves = c.as_slice-2.result.now in
     let located = subst (Located s (named_rows plan columns)) (sym c.as_slice-2.ensures.items) c.locate-leaves.ensures.located in (
-      none_refused s.arity (nodes_of plan) columns (length c.args.marks.now) (length c.args.core.now) c.in_ok-check_leaves.ensures c.in_ok-check_line.ensures c.if-guard-lt256.false c.if-core-lt12.false,
+      none_refused s.arity (nodes_of plan) columns (length c.args.marks.now) (length c.args.core.now) c.in_ok-check_leaves.ensures c.in_ok-check_line.ensures c.if-guard-lt-MARK_BYTES.false c.if-core-lt-CORE_ROWS.false,
       judge_sure s kept cs listed c.as_slice.ensures.items c.requires.held plan columns leaves located c.if-not-try_each.ensures,
       refl,
     )
@@ -65,7 +65,7 @@ returns-clause-says g c =
     let columns = c.args.line.now.columns in
     let leaves = c.as_slice-2.result.now in
     let located = subst (Located s (named_rows plan columns)) (sym c.as_slice-2.ensures.items) c.locate-leaves.ensures.located in (
-      none_refused s.arity (nodes_of plan) columns (length c.args.marks.now) (length c.args.core.now) c.in_ok-check_leaves.ensures c.in_ok-check_line.ensures c.if-guard-lt256.false c.if-core-lt12.false,
+      none_refused s.arity (nodes_of plan) columns (length c.args.marks.now) (length c.args.core.now) c.in_ok-check_leaves.ensures c.in_ok-check_line.ensures c.if-guard-lt-MARK_BYTES.false c.if-core-lt-CORE_ROWS.false,
       subst (Core (rows_of s.places) (conflicts_of s listed) (nodes_of plan) columns) (sym c.write_core.ensures.rows)
           (judge_core s kept cs listed c.as_slice.ensures.items c.requires.held plan columns leaves located c.as_slice-2.ensures.within c.try_each.new.marks c.if-not-try_each.ensures),
       length-take-le c.write_core.result c.write_core.new.core c.write_core.ensures.within,
