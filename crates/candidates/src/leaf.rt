@@ -14,7 +14,8 @@ pub fn line_of(leaf: &PlanLeaf, row: &Row) -> Option<[u32; 8]>
     if row.relation != leaf.relation {
         return None;
     }
-    // One pass tests the fixed columns and gathers the open ones.
+    // One pass tests the fixed columns and gathers the open ones, and ends where one fails; `all` and then a `filter` would be two,
+    // and a `Few` is not collected into.
     let mut open = Few::<u32, 4>::new(0);
     for (field, column) in leaf.fields.iter().zip(&row.columns) {
         match *field {

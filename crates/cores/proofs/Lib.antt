@@ -1,0 +1,16 @@
+pub mod Sets
+pub mod Others
+pub mod Chosen
+pub mod Turning
+pub mod Few
+pub mod Standing
+pub mod Deciding
+pub mod Picking
+pub mod FirstOnly
+pub mod Numbers
+pub mod OnPlaces
+pub mod Telling
+pub mod Surely
+pub mod AtPlaces
+pub mod Coring
+pub mod ByRules

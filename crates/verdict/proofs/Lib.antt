@@ -1,0 +1,12 @@
+pub mod Places
+pub mod Lacks
+pub mod Shutting
+pub mod Laid
+pub mod Hopeless
+pub mod Climbing
+pub mod Bits
+pub mod Siding
+pub mod Marked
+pub mod Placed
+pub mod Judged
+pub mod Turned
