@@ -1,0 +1,4 @@
+pub mod Kept
+pub mod Deciding
+pub mod NoRows
+pub mod Nine
