@@ -1,7 +1,11 @@
 pub mod Answered
 pub mod Held
+pub mod Lent
 pub mod Lives
+pub mod Marks
 pub mod Running
 pub mod Tested
 mod Told
+pub mod Turning
 pub mod Upheld
+pub mod Verdicts

@@ -12,12 +12,12 @@ use Rattle.book.specs.Plain.{Plain, Asked, Told, entering, striking, ruling, tak
 use Rattle.book.specs.Runs.{History, more, Agrees, Life, LivesOn}
 use Rattle.book.specs.Calls.{EntrySays, StrikingSays, RuleSays, taken_by, ruled_by}
 use Rattle.book.specs.declared.refusal.Refusal.{Refusal}
-use Rattle.book.specs.declared.refusal.Refusal.TheVariants.{Source, EntryConflicts, TooManyRules, Rule, RuleConflicts, NoSuchConflict, Unanswered}
+use Rattle.book.specs.declared.refusal.Refusal.TheVariants.{Source, EntryConflicts, TooManyRules, Rule, RuleConflicts, NoSuchConflict, Unanswered, Verdict as NoVerdict}
 use Rattle.book.proofs.Answered.{number_of, entry_asks, strike_asks, goes_on, stops}
 use Rattle.book.proofs.Held.{agrees_put, few_put, agrees_struck, few_with, few_more, few_ruled, agrees_ruled}
 
 -- one step of the plain book carries a life on
-on : (h : History) (s s' : Store) (rules rules' : List Denial) (asked : Asked) (told : Told) (life : Life h s rules) (q : Plain) → Steps life.plain asked told q → Agrees q s' rules' → Life (more h asked told) s' rules'
+pub on : (h : History) (s s' : Store) (rules rules' : List Denial) (asked : Asked) (told : Told) (life : Life h s rules) (q : Plain) → Steps life.plain asked told q → Agrees q s' rules' → Life (more h asked told) s' rules'
 on h s s' rules rules' asked told life q step both = record { plain = q; leads = (life.plain, life.leads, step); agrees = both }
 
 -- a refusal leaves both as they are
@@ -47,6 +47,7 @@ module _ (s s' : Store) (rules : List Denial) (row : Row) where
   entry_lives (Err RuleConflicts) no_way h life = absurd no_way
   entry_lives (Err NoSuchConflict) no_way h life = absurd no_way
   entry_lives (Err (Unanswered e)) no_way h life = absurd no_way
+  entry_lives (Err (NoVerdict e)) no_way h life = absurd no_way
 
   pub striking_lives : OnceIn s.places → (r : Result ℕ Refusal) → StrikingSays s s' row r → LivesOn s rules s' rules (striking row) (taken_by r)
   striking_lives once (Ok place) struck h life =
@@ -65,6 +66,7 @@ module _ (s s' : Store) (rules : List Denial) (row : Row) where
   striking_lives once (Err RuleConflicts) no_way h life = absurd no_way
   striking_lives once (Err NoSuchConflict) no_way h life = absurd no_way
   striking_lives once (Err (Unanswered e)) no_way h life = absurd no_way
+  striking_lives once (Err (NoVerdict e)) no_way h life = absurd no_way
 
 module _ (s : Store) (rules after : List Denial) (rule : Denial) where
   abbrev rule_number : RuleRefusal → ℕ
@@ -109,3 +111,4 @@ module _ (s : Store) (rules after : List Denial) (rule : Denial) where
       (subst (Agrees p s) (sym same) life.agrees)
   rule_lives (Err NoSuchConflict) no_way h life = absurd no_way
   rule_lives (Err (Unanswered e)) no_way h life = absurd no_way
+  rule_lives (Err (NoVerdict e)) no_way h life = absurd no_way

@@ -1,16 +1,21 @@
 -- What the calls of a book promise of its source and its rules.
-use Rattle.std.specs.Prelude.{◌≡◌, ℕ, true, false, List, [], ◌∷◌, ◌++◌, length, Some, None, Ok, Err, Result, nat_lt}
+use Rattle.std.specs.Prelude.{◌≡◌, ℕ, true, false, List, [], ◌∷◌, ◌++◌, length, take, drop, replicate, Some, None, Ok, Err, Result, nat_lt, slice_index}
 use Rattle.store.specs.Store.{Store, Put, Struck, put_refusal, strike_refusal}
 use Rattle.store.specs.declared.row.Row.{Row}
 use Rattle.store.specs.Held.{rows_of}
 use Rattle.rules.specs.Refusals.{rule_refusal}
-use Rattle.rules.specs.Rules.{Denial, AtMost}
-use Rattle.book.specs.Plain.{Asked, entering, striking, ruling, Told, taken, ruled, refused, most}
+use Rattle.rules.specs.Rules.{Denial, conflicts, AtMost}
+use Rattle.plan.specs.declared.node.Node.{Node}
+use Rattle.cores.specs.Sure.{Sure as IsSure, Core}
+use Rattle.verdict.specs.Verdicts.{verdict_no}
+use Rattle.verdict.specs.declared.outcome.Verdict.{Verdict}
+use Rattle.verdict.specs.declared.outcome.Verdict.TheVariants.{Sure, Unsure}
+use Rattle.book.specs.Plain.{Asked, entering, striking, ruling, judging, Told, taken, ruled, sure, unsure, refused, most}
 use Rattle.book.specs.Refusals.{notice_of}
 use Rattle.book.specs.declared.call.Done.{Done}
-use Rattle.book.specs.declared.call.Done.TheVariants.{Taken, Ruled}
+use Rattle.book.specs.declared.call.Done.TheVariants.{Taken, Ruled, Judged}
 use Rattle.book.specs.declared.refusal.Refusal.{Refusal}
-use Rattle.book.specs.declared.refusal.Refusal.TheVariants.{Source, EntryConflicts, TooManyRules, Rule, RuleConflicts, NoSuchConflict, Unanswered}
+use Rattle.book.specs.declared.refusal.Refusal.TheVariants.{Source, EntryConflicts, TooManyRules, Rule, RuleConflicts, NoSuchConflict, Unanswered, Verdict as NoVerdict}
 
 -- an entry is put, and then there are at most 1,024 conflicts; else nothing changes, and the first question answered No tells why
 abbrev pub EntrySays : Store → Store → List Denial → Row → Result ℕ Refusal → Type 0
@@ -22,6 +27,7 @@ EntrySays before after rules row (Err (Rule e)) = ⊥
 EntrySays before after rules row (Err RuleConflicts) = ⊥
 EntrySays before after rules row (Err NoSuchConflict) = ⊥
 EntrySays before after rules row (Err (Unanswered e)) = ⊥
+EntrySays before after rules row (Err (NoVerdict e)) = ⊥
 
 -- a striking is the source's
 abbrev pub StrikingSays : Store → Store → Row → Result ℕ Refusal → Type 0
@@ -33,6 +39,7 @@ StrikingSays before after row (Err (Rule e)) = ⊥
 StrikingSays before after row (Err RuleConflicts) = ⊥
 StrikingSays before after row (Err NoSuchConflict) = ⊥
 StrikingSays before after row (Err (Unanswered e)) = ⊥
+StrikingSays before after row (Err (NoVerdict e)) = ⊥
 
 -- a rule is put last and its number is how many came before, and then there are at most 1,024 conflicts; else the rules stay
 abbrev pub RuleSays : Store → List Denial → List Denial → Denial → Result ℕ Refusal → Type 0
@@ -46,6 +53,23 @@ RuleSays s rules after rule (Err RuleConflicts) =
     (after ≡ rules) × (nat_lt (length rules) 16 ≡ true) × (rule_refusal s.arity rule.atoms rule.comparisons ≡ None) × (AtMost most (rows_of s.places) (rules ++ (rule ∷ [])) → ⊥)
 RuleSays s rules after rule (Err NoSuchConflict) = ⊥
 RuleSays s rules after rule (Err (Unanswered e)) = ⊥
+RuleSays s rules after rule (Err (NoVerdict e)) = ⊥
+
+-- a verdict is about the conflicts by the rules: the line is sure, or the first n of the caller's rows are then a core; else the
+-- first question answered No tells why. Nothing else is written to the caller's rows.
+abbrev pub JudgingSays : Store → List Denial → List Node → List ℕ → ℕ → List Row → List Row → Result Verdict Refusal → Type 0
+JudgingSays s rules nodes columns size before after (Ok Sure) =
+    (verdict_no s.arity nodes columns size (length before) ≡ None) × IsSure (rows_of s.places) (conflicts (rows_of s.places) rules) nodes columns × (after ≡ before)
+JudgingSays s rules nodes columns size before after (Ok (Unsure n)) =
+    (verdict_no s.arity nodes columns size (length before) ≡ None) × Core (rows_of s.places) (conflicts (rows_of s.places) rules) nodes columns (take n after) × (length (take n after) ≡ n) × (drop n after ≡ drop n before)
+JudgingSays s rules nodes columns size before after (Err (Source e)) = ⊥
+JudgingSays s rules nodes columns size before after (Err EntryConflicts) = ⊥
+JudgingSays s rules nodes columns size before after (Err TooManyRules) = ⊥
+JudgingSays s rules nodes columns size before after (Err (Rule e)) = ⊥
+JudgingSays s rules nodes columns size before after (Err RuleConflicts) = ⊥
+JudgingSays s rules nodes columns size before after (Err NoSuchConflict) = ⊥
+JudgingSays s rules nodes columns size before after (Err (Unanswered e)) = ⊥
+JudgingSays s rules nodes columns size before after (Err (NoVerdict e)) = (verdict_no s.arity nodes columns size (length before) ≡ Some e) × (after ≡ before)
 
 -- what is told of an entry or a striking, by its number alone
 abbrev pub taken_by : Result ℕ Refusal → Told
@@ -57,14 +81,50 @@ abbrev pub ruled_by : Result ℕ Refusal → Told
 ruled_by (Ok n) = ruled n
 ruled_by (Err e) = refused (notice_of e).number
 
--- what one step promises of the source and the rules, whichever call it was
-abbrev pub StepSays : Store → List Denial → Store → List Denial → Asked → Result Done Refusal → Type 0
-StepSays s rules s' rules' (entering row) (Ok Taken) = ((p : ℕ) × EntrySays s s' rules row (Ok p)) × (rules' ≡ rules)
-StepSays s rules s' rules' (entering row) (Ok (Ruled n)) = ⊥
-StepSays s rules s' rules' (entering row) (Err e) = EntrySays s s' rules row (Err e) × (rules' ≡ rules)
-StepSays s rules s' rules' (striking row) (Ok Taken) = ((p : ℕ) × StrikingSays s s' row (Ok p)) × (rules' ≡ rules)
-StepSays s rules s' rules' (striking row) (Ok (Ruled n)) = ⊥
-StepSays s rules s' rules' (striking row) (Err e) = StrikingSays s s' row (Err e) × (rules' ≡ rules)
-StepSays s rules s' rules' (ruling rule) (Ok Taken) = ⊥
-StepSays s rules s' rules' (ruling rule) (Ok (Ruled n)) = RuleSays s rules rules' rule (Ok n) × (s' ≡ s)
-StepSays s rules s' rules' (ruling rule) (Err e) = RuleSays s rules rules' rule (Err e) × (s' ≡ s)
+-- what is told of a verdict, where the caller's rows are these afterwards
+abbrev pub judged_by : List Row → Result Verdict Refusal → Told
+judged_by core (Ok Sure) = sure
+judged_by core (Ok (Unsure n)) = unsure (take n core)
+judged_by core (Err e) = refused (notice_of e).number
+
+-- what one step promises of the source, the rules and the caller's rows, whichever call it was
+abbrev pub StepSays : Store → List Denial → Store → List Denial → List Row → List Row → Asked → Result Done Refusal → Type 0
+StepSays s rules s' rules' core core' (entering row) (Ok Taken) = ((p : ℕ) × EntrySays s s' rules row (Ok p)) × (rules' ≡ rules)
+StepSays s rules s' rules' core core' (entering row) (Ok (Ruled n)) = ⊥
+StepSays s rules s' rules' core core' (entering row) (Ok (Judged v)) = ⊥
+StepSays s rules s' rules' core core' (entering row) (Err e) = EntrySays s s' rules row (Err e) × (rules' ≡ rules)
+StepSays s rules s' rules' core core' (striking row) (Ok Taken) = ((p : ℕ) × StrikingSays s s' row (Ok p)) × (rules' ≡ rules)
+StepSays s rules s' rules' core core' (striking row) (Ok (Ruled n)) = ⊥
+StepSays s rules s' rules' core core' (striking row) (Ok (Judged v)) = ⊥
+StepSays s rules s' rules' core core' (striking row) (Err e) = StrikingSays s s' row (Err e) × (rules' ≡ rules)
+StepSays s rules s' rules' core core' (ruling rule) (Ok Taken) = ⊥
+StepSays s rules s' rules' core core' (ruling rule) (Ok (Ruled n)) = RuleSays s rules rules' rule (Ok n) × (s' ≡ s)
+StepSays s rules s' rules' core core' (ruling rule) (Ok (Judged v)) = ⊥
+StepSays s rules s' rules' core core' (ruling rule) (Err e) = RuleSays s rules rules' rule (Err e) × (s' ≡ s)
+StepSays s rules s' rules' core core' (judging nodes columns marks room) (Ok Taken) = ⊥
+StepSays s rules s' rules' core core' (judging nodes columns marks room) (Ok (Ruled n)) = ⊥
+StepSays s rules s' rules' core core' (judging nodes columns marks room) (Ok (Judged v)) =
+    JudgingSays s rules nodes columns marks (take room core) (take room core') (Ok v) × (s' ≡ s) × (rules' ≡ rules)
+StepSays s rules s' rules' core core' (judging nodes columns marks room) (Err e) =
+    JudgingSays s rules nodes columns marks (take room core) (take room core') (Err e) × (s' ≡ s) × (rules' ≡ rules)
+
+-- how many of the caller's mark bytes and rows a call uses, from the first on
+abbrev pub marks_used : Asked → ℕ
+marks_used (entering row) = 0
+marks_used (striking row) = 0
+marks_used (ruling rule) = 0
+marks_used (judging nodes columns marks room) = marks
+
+abbrev pub rows_used : Asked → ℕ
+rows_used (entering row) = 0
+rows_used (striking row) = 0
+rows_used (ruling rule) = 0
+rows_used (judging nodes columns marks room) = room
+
+-- the mark bytes that a call uses are zero afterwards, and the others as they were
+abbrev pub marks_after : Asked → List ℕ → List ℕ
+marks_after asked marks = replicate (marks_used asked) 0 ++ drop (marks_used asked) marks
+
+-- so each mark byte that was zero is zero
+abbrev pub StayZero : List ℕ → List ℕ → Type 0
+StayZero before after = (p : ℕ) → slice_index before p ≡ 0 → slice_index after p ≡ 0

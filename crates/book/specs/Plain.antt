@@ -5,8 +5,12 @@ use Rattle.fault.specs.Questions.{ask}
 use Rattle.store.specs.Rows.{same_row, zero_from}
 use Rattle.store.specs.declared.row.Row.{Row}
 use Rattle.rules.specs.Refusals.{notice_of, rule_refusal}
-use Rattle.rules.specs.Rules.{Denial, AtMost}
+use Rattle.rules.specs.Rules.{Denial, conflicts, AtMost}
 use Rattle.rules.specs.Sets.{among}
+use Rattle.plan.specs.declared.node.Node.{Node}
+use Rattle.cores.specs.Sure.{Sure, Core}
+use Rattle.verdict.specs.Refusals.{notice_of as verdict_notice}
+use Rattle.verdict.specs.Verdicts.{verdict_no}
 
 -- arities, the rows held, the number of empty places, and the rules as they were taken
 pub record Plain : Type 0 where
@@ -20,11 +24,15 @@ pub data Asked : Type 0 where
   entering : Row → Asked
   striking : Row → Asked
   ruling : Denial → Asked
+  -- a plan's nodes and a line's columns, and how many mark bytes and how many rows the caller has room for
+  judging : List Node → List ℕ → ℕ → ℕ → Asked
 
--- what is told of it: it is taken, it is a rule with a number, or it is refused with a number
+-- what is told of it: it is taken, it is a rule with a number, the line is sure or is not by these rows, or it is refused with a number
 pub data Told : Type 0 where
   taken : Told
   ruled : ℕ → Told
+  sure : Told
+  unsure : List Row → Told
   refused : ℕ → Told
 
 -- there may be this many conflicts
@@ -47,6 +55,10 @@ strike_no p row = ask (among p.rows row) 16 None
 abbrev pub rule_no : Plain → Denial → Option ℕ
 rule_no p rule = ask (nat_lt (length p.rules) 16) 21 (option_map (λ e. (notice_of e).number) (rule_refusal p.arity rule.atoms rule.comparisons))
 
+-- the questions of a verdict: do the plan and the line fit, are there 256 mark bytes, is there room for twelve rows?
+abbrev pub judging_no : Plain → List Node → List ℕ → ℕ → ℕ → Option ℕ
+judging_no p nodes columns marks room = option_map (λ e. (verdict_notice e).number) (verdict_no p.arity nodes columns marks room)
+
 -- an entry adds its row and uses up one empty place
 abbrev pub with_row : Plain → Row → Plain
 with_row p row = record { arity = p.arity; rows = row ∷ p.rows; empty = p.empty - 1; rules = p.rules }
@@ -68,8 +80,17 @@ Unless (Some n) rest p told q = (told ≡ refused n) × (q ≡ p)
 abbrev pub If : Type 0 → ℕ → Told → Plain → Plain → Told → Plain → Type 0
 If question n granted done p told q = (question × (told ≡ granted) × (q ≡ done)) ⊎ ((question → ⊥) × (told ≡ refused n) × (q ≡ p))
 
+-- a verdict tells that the line is sure, or rows that are a core
+abbrev pub Judged : Plain → List Node → List ℕ → Told → Type 0
+Judged p nodes columns taken = ⊥
+Judged p nodes columns (ruled n) = ⊥
+Judged p nodes columns sure = Sure p.rows (conflicts p.rows p.rules) nodes columns
+Judged p nodes columns (unsure core) = Core p.rows (conflicts p.rows p.rules) nodes columns core
+Judged p nodes columns (refused n) = ⊥
+
 -- the plain book p, asked this, tells that and becomes q
 abbrev pub Steps : Plain → Asked → Told → Plain → Type 0
 Steps p (entering row) told q = Unless (entry_no p row) (If (AtMost most (row ∷ p.rows) p.rules) 15 taken (with_row p row) p) p told q
 Steps p (striking row) told q = Unless (strike_no p row) (λ t r. (t ≡ taken) × (r ≡ without_row p row)) p told q
 Steps p (ruling rule) told q = Unless (rule_no p rule) (If (AtMost most p.rows (p.rules ++ (rule ∷ []))) 25 (ruled (length p.rules)) (with_rule p rule) p) p told q
+Steps p (judging nodes columns marks room) told q = Unless (judging_no p nodes columns marks room) (λ t r. Judged p nodes columns t × (r ≡ p)) p told q

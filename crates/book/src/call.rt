@@ -1,7 +1,9 @@
 // What a book can be asked, as one value, and what came of it.
 use crate::refusal::Refusal;
+use plan::{Line, Plan};
 use rules::Comparison;
 use store::Row;
+use verdict::Verdict;
 
 #[derive(Clone, Copy)]
 pub enum Call<'a> {
@@ -10,6 +12,14 @@ pub enum Call<'a> {
     Rule {
         atoms: &'a [u16],
         comparisons: &'a [Comparison],
+    },
+    // Whether a line of a plan is sure, with so many of the mark bytes and of the rows that the caller lends; where that is
+    // more than there are, with all of them.
+    Verdict {
+        plan: &'a Plan,
+        line: Line,
+        marks: usize,
+        core: usize,
     },
 }
 
@@ -20,6 +30,8 @@ pub enum Done {
     Taken,
     // A rule was taken, with this number.
     Ruled(usize),
+    // A verdict was given; the rows of a core are in the caller's.
+    Judged(Verdict),
 }
 
 pub type Outcome = Result<Done, Refusal>;

@@ -9,6 +9,7 @@ mod book;
 mod call;
 mod entries;
 mod forbidden;
+mod judging;
 mod log;
 mod queries;
 mod recorder;

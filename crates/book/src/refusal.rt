@@ -21,6 +21,8 @@ pub enum Refusal {
     NoSuchConflict,
     // The plan or the line is not one that can be answered here.
     Unanswered(answers::Refusal),
+    // There is no verdict.
+    Verdict(verdict::Refusal),
 }
 
 // The number, layer and position that the refusing layer tells.
@@ -36,6 +38,7 @@ impl From<Refusal> for Notice {
             Refusal::RuleConflicts => Notice::new(25, 0),
             Refusal::NoSuchConflict => Notice::new(46, 0),
             Refusal::Unanswered(refusal) => Notice::from(refusal),
+            Refusal::Verdict(refusal) => Notice::from(refusal),
         }
     }
 }
@@ -61,5 +64,13 @@ impl From<answers::Refusal> for Refusal {
 
     fn from(refusal: answers::Refusal) -> Refusal {
         Refusal::Unanswered(refusal)
+    }
+}
+
+impl From<verdict::Refusal> for Refusal {
+    ghost from_gives = { λ refusal r. r ≡ Refusal.Verdict refusal };
+
+    fn from(refusal: verdict::Refusal) -> Refusal {
+        Refusal::Verdict(refusal)
     }
 }

@@ -2,9 +2,8 @@
 use Rattle.std.proofs.Common.{◌≡◌, ℕ, zero, suc, ◌+◌, ◌<◌, Bool, true, false, not, ◌||◌, eqb, ◌≢◌, List, [], ◌∷◌, ◌++◌, length, get_or, take, set, sym, refl, ap, ◌∙◌, subst, ⊎_elim, arith, get_or-set_other, get_or-set_same}
 use Rattle.std.proofs.lemmas.Bool.{both_ways, and_parts, and_from, cases_eq}
 use Rattle.std.proofs.lemmas.List.{take_more, get_or-map, length-map}
-use Rattle.std.proofs.lemmas.List.Folds.{list_any-append}
+use Rattle.std.proofs.lemmas.List.Folds.{list_any-append, list_any_at}
 use Rattle.store.specs.Lists.{any, all}
-use Rattle.store.proofs.Scans.{any_here}
 use Rattle.rules.specs.Views.{listed_as}
 use Rattle.rules.specs.declared.conflict.Conflict.{Conflict}
 use Rattle.cores.specs.Backing.{one_of, clear_places, without}
@@ -39,7 +38,7 @@ module _ (cs : List Conflict) (i : ℕ) (x : Conflict) (lt : i < length cs) (e :
 
   -- it is whole
   pub whole_here : (S : ℕ → Bool) → all S places ≡ true → clear_places (lists_of cs) S ≡ false
-  whole_here S h = ap not (any_here (all S) (lists_of cs) i [] within (ap (all S) listed_at ∙ h))
+  whole_here S h = ap not (list_any_at (all S) (lists_of cs) i [] within (ap (all S) listed_at ∙ h))
 
   -- it is not
   pub clear_more : (S : ℕ → Bool) → clear_places (lists_of (take i cs)) S ≡ true → all S places ≡ false → clear_places (lists_of (take (i + 1) cs)) S ≡ true
@@ -61,6 +60,6 @@ module _ (cs : List Conflict) (i : ℕ) (x : Conflict) (lt : i < length cs) (e :
     pub shuts_more : Shuts (lists_of cs) marks → Shuts (lists_of cs) (set marks p 2)
     shuts_more h q told = subst (λ S. any (lacks_only S q) (lists_of cs) ≡ true) (sym (alike in_still)) (⊎_elim
         (λ (s : q ≡ p). subst (λ t. any (lacks_only (is_in marks) t) (lists_of cs) ≡ true) (sym s)
-        (any_here (lacks_only (is_in marks) p) (lists_of cs) i [] within (ap (lacks_only (is_in marks) p) listed_at ∙ and_from _ _ has (but_for (is_in marks) p places ∙ rest))))
+        (list_any_at (lacks_only (is_in marks) p) (lists_of cs) i [] within (ap (lacks_only (is_in marks) p) listed_at ∙ and_from _ _ has (but_for (is_in marks) p places ∙ rest))))
         (λ (ne : q ≢ p). h q (sym (ap (λ t. eqb t 2) (get_or-set_other marks p q 2 0 ne)) ∙ told))
         (cases_eq q p))
