@@ -2,5 +2,6 @@ mod Rooms
 mod Forms
 mod Columns
 mod Ruling
+mod Planning
 mod Examples
 mod Verbs

@@ -6,11 +6,14 @@
 
 mod command;
 mod parsing;
+mod postfix;
 mod refusal;
 mod rule;
 mod verb;
+mod verdicts;
 
 pub use command::Command;
-pub use parsing::parse;
+pub use parsing::{parse, plan_from, verdict_from};
 pub use refusal::Refusal;
 pub use rule::RuleText;
+pub use verdicts::VerdictText;
