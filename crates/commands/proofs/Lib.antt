@@ -4,4 +4,5 @@ mod Columns
 mod Ruling
 mod Planning
 mod Examples
+mod PlanExamples
 mod Verbs
