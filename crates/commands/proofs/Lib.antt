@@ -1,4 +1,5 @@
 mod Rooms
+mod Comparing
 mod Forms
 mod Columns
 mod Ruling

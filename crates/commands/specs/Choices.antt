@@ -5,7 +5,7 @@ use Rattle.store.specs.declared.comparison.Side.{Side}
 use Rattle.store.specs.declared.comparison.Side.TheVariants.{Column, Constant}
 use Rattle.store.specs.declared.comparison.Comparison.{Comparison}
 use Rattle.words.specs.Language.{number_of, is_line_column}
-use Rattle.commands.specs.Comparisons.{compared, digit_at}
+use Rattle.commands.specs.Comparisons.{compared, between, digit_at}
 
 -- a column of the line: in c1 the digit is the column; or a constant
 abbrev pub line_side : List ℕ → Option (Side ℕ)
@@ -13,4 +13,4 @@ line_side text = cond (is_line_column text) (Some (Column (digit_at 1 text))) (o
 
 -- the comparison that a word is, where it names columns of a line alone
 abbrev pub choice_of : List ℕ → Option (Comparison ℕ)
-choice_of w = option_map (λ c. record { left = c.0; sign = c.1.0; right = c.1.1 }) (compared line_side w)
+choice_of w = option_map between (compared line_side w)
