@@ -3,6 +3,7 @@ mod Comparing
 mod Forms
 mod Columns
 mod Ruling
+mod Growing
 mod Planning
 mod Examples
 mod PlanExamples

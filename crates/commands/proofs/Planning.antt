@@ -1,64 +1,16 @@
 -- How a plan is read, word by word.
-use Rattle.std.proofs.Common.{◌≡◌, ℕ, ◌+◌, ◌*◌, ◌≤◌, false, List, [], ◌∷◌, length, Some, None, Option, sym, refl, ap, ◌∙◌, subst, arith}
-use Rattle.std.specs.Option.{option_map, option_flatten}
+use Rattle.std.proofs.Common.{◌≡◌, ℕ, ◌+◌, ◌*◌, ◌≤◌, false, List, [], ◌∷◌, length, Some, sym, refl, ap, ◌∙◌, subst, arith}
 use Rattle.std.proofs.lemmas.List.{length_push}
-use Rattle.store.specs.declared.comparison.Comparison.{Comparison}
-use Rattle.words.specs.Language.{Form, number, leaf, comparison, sign, slash, form_of, is_slash, cut, number_of, texts, Placed}
-use Rattle.plan.specs.declared.node.Node.{Node}
-use Rattle.plan.specs.declared.node.Node.TheVariants.{Choice, Pair}
-use Rattle.plan.specs.declared.node.Op.{Op}
-use Rattle.commands.specs.Choices.{choice_of}
-use Rattle.commands.specs.Leaves.{leaf_of}
-use Rattle.commands.specs.Plans.{Stacked, bare, topped, over, chosen, chosen_by, paired, paired_by, op_of, with_form, with_word, with_words, before_slash, behind_slash}
+use Rattle.words.specs.Language.{is_slash, cut, number_of, texts, Placed}
+use Rattle.commands.specs.Plans.{Stacked, bare, with_word, with_words, before_slash, behind_slash}
 use Rattle.commands.specs.Rooms.{room}
+use Rattle.commands.proofs.Growing.{by_word}
 
-module _ (s t : Stacked) where
-  -- one more node
-  abbrev More : Option Stacked → Type 0
-  More o = Some t ≡ o → length t.nodes ≡ length s.nodes + 1
-
-  put_more : (node : Node) (stack : List ℕ) → More (Some (topped node (over stack s)))
-  put_more node stack e =
-      let same : t ≡ topped node (over stack s) = cc in
-      ap (λ u. length u.nodes) same ∙ length_push s.nodes node
-
-  chosen_more : (stack : List ℕ) (c : Comparison ℕ) → More (chosen_by stack c s)
-  chosen_more [] c e = cc
-  chosen_more (k ∷ ks) c e = put_more (Choice k c) ks e
-
-  paired_more : (stack : List ℕ) (op : Op) → More (paired_by stack op s)
-  paired_more [] op e = cc
-  paired_more (r ∷ []) op e = cc
-  paired_more (r ∷ l ∷ ks) op e = put_more (Pair op l r) ks e
-
-  leaf_more : (o : Option Node) → More (option_map (λ node. topped node s) o)
-  leaf_more None e = cc
-  leaf_more (Some node) e = put_more node s.stack e
-
-  form_more : (f : Form) → More (with_form s f)
-  form_more (number w) e = cc
-  form_more (leaf w) e = leaf_more (leaf_of w) e
-  form_more (comparison w) e = by (choice_of w) e
-    where
-      by : (o : Option (Comparison ℕ)) → More (option_flatten (option_map (chosen s) o))
-      by None e = cc
-      by (Some c) e = chosen_more s.stack c e
-  form_more (sign w) e = by (op_of w) e
-    where
-      by : (o : Option Op) → More (option_flatten (option_map (paired s) o))
-      by None e = cc
-      by (Some op) e = paired_more s.stack op e
-  form_more slash e = cc
-
-  -- a word of a plan has a byte, and brings one node
-  pub word_more : (w : List ℕ) → Some t ≡ with_word s w → (length t.nodes ≡ length s.nodes + 1) × (1 ≤ length w)
-  unfolding number_of cut
-  word_more [] e = cc
-  word_more (b ∷ bs) e = (by (form_of (b ∷ bs)) e, omega arith)
-    where
-      by : (o : Option Form) → More (option_flatten (option_map (with_form s) o))
-      by None e = cc
-      by (Some f) e = form_more f e
+-- a word of a plan has a byte, and brings one node
+word_more : (s t : Stacked) (w : List ℕ) → Some t ≡ with_word s w → (length t.nodes ≡ length s.nodes + 1) × (1 ≤ length w)
+unfolding number_of cut
+word_more s t [] e = cc
+word_more s t (b ∷ bs) e = let more = by_word s t (b ∷ bs) e in (ap (λ u. length u.nodes) more.is ∙ length_push s.nodes more.node, omega arith)
 
 -- of the words that are taken for the plan, some were read onto the stack; all others are to come
 pub record Sofar (taken : List (List ℕ) → List (List ℕ)) (all : List (List ℕ)) (s : Stacked) (others : List Placed) : Type 0 where

@@ -11,3 +11,4 @@ pub mod Leaves
 pub mod Choices
 pub mod Plans
 pub mod Postfixes
+pub mod Laws

@@ -5,6 +5,7 @@
 #![tactic(auto)]
 
 mod command;
+mod laws;
 mod parsing;
 mod postfix;
 mod refusal;
@@ -13,6 +14,7 @@ mod verb;
 mod verdicts;
 
 pub use command::Command;
+pub use laws::nodes_in_order;
 pub use parsing::{parse, plan_from, verdict_from};
 pub use refusal::Refusal;
 pub use rule::RuleText;
