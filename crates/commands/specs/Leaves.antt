@@ -1,5 +1,5 @@
 -- Leaves of a plan as a line writes them, as 3:_,_,7.
-use Rattle.std.specs.Prelude.{ℕ, ◌-◌, cond, List, [], ◌∷◌, ◌++◌, length, replicate, Some, None, codes, Option, nat_le}
+use Rattle.std.specs.Prelude.{ℕ, ◌-◌, cond, List, [], ◌∷◌, ◌++◌, length, replicate, Some, codes, Option}
 use Rattle.std.specs.Option.{option_map, option_flatten, option_zip}
 use Rattle.words.specs.Language.{among, spelled, number_of, texts, parts_of, halves_of}
 use Rattle.words.specs.declared.separators.Separator.TheVariants.{Colon, Comma}
@@ -7,7 +7,7 @@ use Rattle.plan.specs.declared.node.Field.{Field}
 use Rattle.plan.specs.declared.node.Field.TheVariants.{Open, Fixed}
 use Rattle.plan.specs.declared.node.Node.{Node}
 use Rattle.plan.specs.declared.node.Node.TheVariants.{Leaf}
-use Rattle.commands.specs.Numbers.{each, relation_of}
+use Rattle.commands.specs.Numbers.{values_from, relation_of}
 
 -- a column: open, or a number
 abbrev pub field_of : List ℕ → Option Field
@@ -15,7 +15,7 @@ field_of text = cond (spelled (among (codes "_") ∷ []) text) (Some Open) (opti
 
 -- at most four columns
 abbrev pub fields_from : List (List ℕ) → Option (List Field)
-fields_from texts = cond (nat_le (length texts) 4) (each field_of texts) None
+fields_from texts = values_from 4 field_of texts
 
 -- a leaf with these columns; those from its arity on are fixed at zero
 abbrev pub leaf_with : ℕ → List Field → Node

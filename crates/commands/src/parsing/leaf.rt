@@ -5,7 +5,7 @@ ghost use Rattle.words.specs.Language.{texts};
 ghost use Rattle.words.specs.Meaning.{to_come};
 ghost use Rattle.commands.specs.Leaves.{field_of, fields_from, leaf_with, leaf_of};
 
-use super::columns::relation_of;
+use super::columns::{relation_of, values_from};
 use plan::{Field, Node};
 use words::halves::halves;
 use words::{Parts, Separator, number};
@@ -21,24 +21,14 @@ fn field_of(text: &[u8]) -> Option<Field>
 }
 
 // The leaf of a relation with these columns, at most four.
-fn leaf_with(relation: u16, mut columns: Parts<'_>) -> Option<Node>
+fn leaf_with(relation: u16, columns: Parts<'_>) -> Option<Node>
     ensures { result ≡ option_map (leaf_with relation) (fields_from (texts (to_come columns.entry))) }
 {
-    let mut fields = [Field::Fixed(0); 4];
-    for (i, field) in fields.iter_mut().enumerate() {
-        let Some(part) = columns.next() else {
-            let arity = i as u8;
-            return Some(Node::Leaf {
-                relation,
-                arity,
-                fields,
-            });
-        };
-        *field = field_of(part.text)?;
-    }
-    columns.next().is_none().then_some(Node::Leaf {
+    let (arity, fields) = values_from(columns, Field::Fixed(0), field_of)?;
+    let arity = arity as u8;
+    Some(Node::Leaf {
         relation,
-        arity: 4,
+        arity,
         fields,
     })
 }
