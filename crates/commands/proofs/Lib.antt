@@ -1,6 +1,10 @@
 mod Rooms
+mod Comparing
 mod Forms
 mod Columns
 mod Ruling
+mod Growing
+mod Planning
 mod Examples
+mod PlanExamples
 mod Verbs

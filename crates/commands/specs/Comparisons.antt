@@ -22,6 +22,10 @@ sign_of b =
 abbrev pub compared : {S : Type 0} → (List ℕ → Option S) → List ℕ → Option (S × (Sign × S))
 compared side text = option_flatten (option_map (λ h. option_zip (side h.0) (option_zip (sign_of (slice_index text (length h.0))) (side h.1))) (halves_of AtSign text))
 
+-- the comparison of a left side, by a sign, with a right side
+abbrev pub between : {C : Type 0} → Side C × (Sign × Side C) → Comparison C
+between c = record { left = c.0; sign = c.1.0; right = c.1.1 }
+
 -- the digit at a place
 abbrev pub digit_at : ℕ → List ℕ → ℕ
 digit_at i text = slice_index text i - 48
@@ -32,4 +36,4 @@ atom_side text = cond (is_atom_column text) (Some (Column record { atom = digit_
 
 -- the comparison that a word is
 abbrev pub comparison_of : List ℕ → Option (Comparison AtomColumn)
-comparison_of w = option_map (λ c. record { left = c.0; sign = c.1.0; right = c.1.1 }) (compared atom_side w)
+comparison_of w = option_map between (compared atom_side w)

@@ -7,3 +7,8 @@ pub mod Rules
 pub mod Rooms
 pub mod Tasks
 pub mod Lines
+pub mod Leaves
+pub mod Choices
+pub mod Plans
+pub mod Postfixes
+pub mod Laws

@@ -14,6 +14,14 @@ abbrev pub each : {A : Type 0} → (List ℕ → Option A) → List (List ℕ) �
 each value [] = Some []
 each value (w ∷ ws) = prefixed (value w) (each value ws)
 
+-- what at most n words stand for
+abbrev pub values_from : {A : Type 0} → ℕ → (List ℕ → Option A) → List (List ℕ) → Option (List A)
+values_from n value ws = cond (nat_le (length ws) n) (each value ws) None
+
+-- how many values there are, and they filled up to n
+abbrev pub filled : {A : Type 0} → ℕ → A → List A → ℕ × List A
+filled n filler xs = (length xs, xs ++ replicate (n - length xs) filler)
+
 -- a number that can be a relation's
 abbrev pub as_relation : ℕ → Option ℕ
 as_relation n = cond (nat_le n 65535) (Some n) None

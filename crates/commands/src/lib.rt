@@ -5,12 +5,17 @@
 #![tactic(auto)]
 
 mod command;
+mod laws;
 mod parsing;
+mod postfix;
 mod refusal;
 mod rule;
 mod verb;
+mod verdicts;
 
 pub use command::Command;
-pub use parsing::parse;
+pub use laws::nodes_in_order;
+pub use parsing::{parse, plan_from, verdict_from};
 pub use refusal::Refusal;
 pub use rule::RuleText;
+pub use verdicts::VerdictText;

@@ -11,12 +11,15 @@ ghost use Rattle.commands.specs.Rooms.{room};
 use crate::command::Command;
 use crate::refusal::Refusal;
 use crate::verb::Verb;
+pub use plans::{plan_from, verdict_from};
 use row::row_from;
 use rule::rule_from;
 use words::{Parts, Separator, word};
 
 mod columns;
-mod comparison;
+pub(crate) mod comparison;
+pub(crate) mod leaf;
+mod plans;
 mod row;
 mod rule;
 

@@ -1,7 +1,11 @@
--- Each turn reads the next word into the next column.
-use Rattle.std.proofs.Common.{arith}
-use Rattle.commands.proofs.Columns.{one_more}
+-- The columns are those that were read.
+use Rattle.std.proofs.Common.{rules}
+use Rattle.words.specs.Language.{number_of}
+use Rattle.commands.proofs.Columns.{one_at_least}
 use Rattle.commands.proofs.parsing.columns.columns_from.Goals as goal
 
-pub loop-i-preserved : goal.loop-i-preserved
-loop-i-preserved g c = one_more c.loop-i.invariant c.in_ok-column.field-0 c.in-Some.ensures.steps c.in_ok-column.ensures (omega arith)
+pub returns : goal.returns
+returns g c =
+    let read = c.in_ok-count.ensures.reads number_of (λ t x h. search rules) in
+    let is = one_at_least g.row.N _ _ _ read in
+    cc
