@@ -4,28 +4,33 @@
 // rounds is told, since other work on the machine only adds to it.
 #![tactic(auto)]
 
+use crate::ground::Ground;
 use crate::load::Load;
 use crate::trouble::Trouble;
 use std::{env, io};
 
+mod checks;
 mod costs;
+mod ground;
 mod load;
 mod round;
-mod table;
 mod trouble;
 
 fn main(rt: HostRuntime) -> Result<(), Trouble> {
     if !asked_to_run(&rt)? {
         println!(rt; "usage: bench run")?;
         println!(rt;
-            "It prints the nanoseconds of an entry, a strike and a rule of a book over a table."
+            "It prints the nanoseconds of an entry, a strike and a rule of a book over a table and over a page."
         )?;
         return Ok(());
     }
     println!(rt; "nanoseconds a call, and in brackets the ratio to the size before")?;
-    table::sizes(&rt, Load::Pairs)?;
-    table::sizes(&rt, Load::Threes)?;
-    table::sizes(&rt, Load::LateThrees)
+    for ground in [Ground::Table, Ground::Page] {
+        for load in [Load::Pairs, Load::Threes, Load::LateThrees] {
+            ground.measure(&rt, load)?;
+        }
+    }
+    checks::full_page(&rt)
 }
 
 // Whether the first word after the program's name is run.
