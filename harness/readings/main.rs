@@ -26,10 +26,13 @@ const LEFT: &str = "target/harness_readings.script";
 /// A program that takes longer over a script is stopped.
 const PATIENCE: Duration = Duration::from_secs(60);
 
+/// No more bytes than these are read of what it prints.
+const MOST_BYTES: u64 = 1 << 24;
+
 /// What the program prints of a script, and how it ended where it did not end well.
 fn printed(program: &str, text: &[u8]) -> std::io::Result<(Vec<u8>, Option<String>)> {
     let mut child = Command::new(program).stdin(Stdio::piped()).stdout(Stdio::piped()).spawn()?;
-    let (mut input, mut output) = (child.stdin.take().unwrap(), child.stdout.take().unwrap());
+    let (mut input, output) = (child.stdin.take().unwrap(), child.stdout.take().unwrap());
     let text = text.to_vec();
     // A program that stops early is told by its status, not by the write that it fails.
     let writer = spawn(move || {
@@ -38,7 +41,7 @@ fn printed(program: &str, text: &[u8]) -> std::io::Result<(Vec<u8>, Option<Strin
     let (sender, receiver) = channel();
     let reader = spawn(move || {
         let mut bytes = Vec::new();
-        let read = output.read_to_end(&mut bytes);
+        let read = output.take(MOST_BYTES).read_to_end(&mut bytes);
         let _ = sender.send(());
         read.map(|_| bytes)
     });
