@@ -32,7 +32,7 @@ module _ (plan : Plan) (columns : List ℕ) (a b : List Bool) (same : take (leng
   same_node : (k : ℕ) → k < length (nodes_of plan) → ((j : ℕ) → j < k → Same j) → (n : Node) → get_or (nodes_of plan) k blank ≡ n →
       truth_of (get_or a (leaves_before (nodes_of plan) k) false) (part_at plan columns k) (Truths a) n ≡ truth_of (get_or b (leaves_before (nodes_of plan) k) false) (part_at plan columns k) (Truths b) n
   same_node k h ih (Leaf relation arity fields) e = same_leaf k h relation arity fields e
-  same_node k h ih (Choice node left sign right) e = ap (λ t. t && chosen left sign right (part_at plan columns k)) (ih node (choice_in plan k h node left sign right e).0)
+  same_node k h ih (Choice node comparison) e = ap (λ t. t && chosen comparison (part_at plan columns k)) (ih node (choice_in plan k h node comparison e).0)
   same_node k h ih (Pair op left right) e = let (i, j, _, _) = pair_in plan k h op left right e in ap₂ (combined op) (ih left i) (ih right j)
 
   same_below : (m k : ℕ) → k < m → k < length (nodes_of plan) → Same k
