@@ -61,11 +61,17 @@ module _ (s : Store) (listed : List Listed) where
       pub some : SomeSure lines
       pub more : room < length lines
 
--- all sure lines are in the first n of the caller's, and the others are as they were; or the first question that is answered No,
--- and nothing is written; or more lines are sure than the caller has room for, and then all of the caller's are zero
+-- all sure lines are now in the first n of the lines, and the others are as they were
+pub record SheetOf (s : Store) (listed : List Listed) (nodes : List Node) (before after : List Line) (n : ℕ) : Type 0 where
+  pub within : n ≤ length before
+  pub sheet : AllSure s listed nodes (columns_of (take n after))
+  pub rest : drop n after ≡ drop n before
+
+-- the sheet is in the first n of the caller's lines; or the first question that is answered No, and nothing is written; or more lines
+-- are sure than the caller has room for, and then all of the caller's are zero
 abbrev pub SheetSays : Store → List Listed → List Node → ℕ → List Line → List Line → Result ℕ Refusal → Type 0
 SheetSays s listed nodes size before after (Ok n) =
-    (sheet_no s.arity nodes size ≡ None) × (n ≤ length before) × AllSure s listed nodes (columns_of (take n after)) × (drop n after ≡ drop n before)
+    (sheet_no s.arity nodes size ≡ None) × SheetOf s listed nodes before after n
 SheetSays s listed nodes size before after (Err (Unanswered refusal)) =
     (sheet_no s.arity nodes size ≡ Some (Unanswered refusal)) × (after ≡ before)
 SheetSays s listed nodes size before after (Err FewMarks) =

@@ -4,6 +4,9 @@
 // each is settled as a verdict is. Nothing is kept of those that are not sure, and nothing is allocated.
 #![tactic(auto)]
 
+mod gathering;
 mod refusal;
+mod writing;
 
 pub use refusal::Refusal;
+pub use writing::sheet;
