@@ -11,14 +11,14 @@ use Rattle.sheet.specs.Sheets.{columns_of, Sure, SomeSure}
 
 module _ (s : Store) (listed : List Listed) (nodes : List Node) where
   -- of the candidates up to a line, the sure ones are here
-  pub record Gathered (upto : Option Line) (lines : List (List ℕ)) : Type 0 where
+  pub record Gathered (upto : Option Line) (lines : List Line) : Type 0 where
     pub some : SomeSure s listed nodes lines
-    pub all : (columns : List ℕ) → is_candidate nodes (rows_of s.places) columns ≡ true → is_after upto columns ≡ false → Sure s listed nodes columns → has lines columns ≡ true
+    pub all : (columns : List ℕ) → is_candidate nodes (rows_of s.places) columns ≡ true → is_after upto columns ≡ false → Sure s listed nodes columns → has (columns_of lines) columns ≡ true
 
   module _ (before after : List Line) where
     -- what is gathered is now in the first n of the lines, and those from there on are as they were
     pub record Grown (upto : Option Line) (count n : ℕ) : Type 0 where
       pub more : count ≤ n
       pub within : n ≤ length before
-      pub gathered : Gathered upto (columns_of (take n after))
+      pub gathered : Gathered upto (take n after)
       pub rest : drop n after ≡ drop n before

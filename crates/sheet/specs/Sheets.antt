@@ -1,5 +1,6 @@
 -- What a sheet says: all sure lines of a plan.
 use Rattle.std.specs.Prelude.{◌≡◌, ℕ, ◌<◌, ◌≤◌, true, List, map, length, take, drop, replicate, Some, None, Ok, Err, Option, Result, nat_le}
+use Rattle.std.specs.declared.cmp.Ordering.{Ordering}
 use Rattle.fault.specs.Questions.{ask}
 use Rattle.ordered.specs.Columnwise.{columnwise}
 use Rattle.ordered.specs.Order.{rises}
@@ -32,6 +33,10 @@ sheet_no arity nodes size = unless_asked (leaves_no arity nodes) (ask (nat_le 25
 abbrev pub columns_of : List Line → List (List ℕ)
 columns_of lines = map (λ line. line.columns) lines
 
+-- the first column that differs says which of two lines comes first
+abbrev pub by_columns : Line → Line → Ordering
+by_columns a b = columnwise a.columns b.columns
+
 module _ (s : Store) (listed : List Listed) where
   -- there is a reading of the rows
   abbrev pub Readable : Type 0
@@ -42,29 +47,28 @@ module _ (s : Store) (listed : List Listed) where
     abbrev pub Sure : List ℕ → Type 0
     Sure columns = IsSure (rows_of s.places) (conflicts_of s listed) nodes columns
 
-    -- lines that are sure, each before all later ones
-    pub record SomeSure (lines : List (List ℕ)) : Type 0 where
-      -- the first column that differs is less in the earlier line, so none is there twice
-      pub ascend : rises columnwise lines ≡ true
-      pub sure : (columns : List ℕ) → has lines columns ≡ true → Sure columns
+    -- lines that are sure, each before all later ones, so that none is there twice
+    pub record SomeSure (lines : List Line) : Type 0 where
+      pub ascend : rises by_columns lines ≡ true
+      pub sure : (columns : List ℕ) → has (columns_of lines) columns ≡ true → Sure columns
       -- each has eight columns, with zeros from the plan's width on
-      pub fit : (columns : List ℕ) → has lines columns ≡ true → line_fits (plan_width nodes) columns ≡ true
+      pub fit : (columns : List ℕ) → has (columns_of lines) columns ≡ true → line_fits (plan_width nodes) columns ≡ true
 
     -- and there is no sure line but these
-    pub record AllSure (lines : List (List ℕ)) : Type 0 where
+    pub record AllSure (lines : List Line) : Type 0 where
       pub some : SomeSure lines
-      pub all : (columns : List ℕ) → Sure columns → has lines columns ≡ true
+      pub all : (columns : List ℕ) → Sure columns → has (columns_of lines) columns ≡ true
 
     -- there are more sure lines than there is room for
     pub record TooMany (room : ℕ) : Type 0 where
-      pub lines : List (List ℕ)
+      pub lines : List Line
       pub some : SomeSure lines
       pub more : room < length lines
 
 -- all sure lines are now in the first n of the lines, and the others are as they were
 pub record SheetOf (s : Store) (listed : List Listed) (nodes : List Node) (before after : List Line) (n : ℕ) : Type 0 where
   pub within : n ≤ length before
-  pub sheet : AllSure s listed nodes (columns_of (take n after))
+  pub sheet : AllSure s listed nodes (take n after)
   pub rest : drop n after ≡ drop n before
 
 -- the sheet is in the first n of the caller's lines; or the first question that is answered No, and nothing is written; or more lines

@@ -7,7 +7,7 @@ ghost use Rattle.plan.specs.declared.line.Line.{Line};
 ghost use Rattle.candidates.specs.Candidates.{Next};
 ghost use Rattle.cores.specs.Backing.{HeldIn};
 ghost use Rattle.cores.specs.Settling.{listed_places};
-ghost use Rattle.sheet.specs.Sheets.{columns_of, Readable, TooMany, SheetOf};
+ghost use Rattle.sheet.specs.Sheets.{Readable, TooMany, SheetOf};
 ghost use Rattle.sheet.specs.Gathering.{Gathered, Grown};
 
 use candidates::next_candidate;
@@ -30,7 +30,7 @@ fn enter_if_sure<S: Source>(
     requires held { HeldIn (S.Source.model source.now).places (listed_places (listing conflicts.now)) }
     requires room { 256 ≤ length marks.old }
     requires within { count ≤ length lines.old }
-    ensures { (upto : Option Line) → Gathered (S.Source.model source.now) (listing conflicts.now) (nodes_of plan.now) upto (columns_of (take count lines.old)) →
+    ensures { (upto : Option Line) → Gathered (S.Source.model source.now) (listing conflicts.now) (nodes_of plan.now) upto (take count lines.old) →
         Next (nodes_of plan.now) (rows_of (S.Source.model source.now).places) upto line.columns →
         MatchResult result
         (Grown (S.Source.model source.now) (listing conflicts.now) (nodes_of plan.now) lines.old lines.new (Some line) count)

@@ -1,19 +1,16 @@
-use Rattle.std.proofs.Common.{rules, ◌≡◌, ◌≤◌, None, Some, MatchResult, length, take, Option, ℕ, ◌+◌, ◌-◌, ◌*◌, ◌<◌, ◌/◌, ◌%◌, Bool, true, false, nat_eq, nat_lt, List, [], ◌∷◌, ◌++◌, slice_index_or, slice_set, bit_and, bit_or, Fits, w8, w32, w64, Bor, MutBor}
-use Rattle.store.specs.Held.{rows_of}
+use Rattle.std.proofs.Common.{refl}
 use Rattle.rules.specs.Entries.{listing}
 use Rattle.plan.specs.Plans.{nodes_of}
-use Rattle.plan.specs.declared.line.Line.{Line}
-use Rattle.candidates.specs.Candidates.{Next}
-use Rattle.cores.specs.Backing.{HeldIn}
-use Rattle.cores.specs.Settling.{listed_places}
-use Rattle.sheet.specs.Sheets.{columns_of, Readable, TooMany, SheetOf}
-use Rattle.sheet.specs.Gathering.{Gathered, Grown}
+use Rattle.sheet.proofs.Steps.{not_sure, entered_says, passed_says}
 use Rattle.sheet.proofs.gathering.enter_if_sure.Goals as goal
 
--- src/gathering.rt:40:9
 pub returns-then-is_sure : goal.returns-then-is_sure
-returns-then-is_sure g c = ?
+returns-then-is_sure g c upto these next =
+    entered_says (g.S.Source.model c.args.source.now) (listing c.args.conflicts.now) (nodes_of c.args.plan.now) c.args.lines.now c.enter.new.items c.args.count c.requires.within c.enter.auto.items upto c.args.line next these
+    c.if-is_sure.ensures c.enter.result c.enter.ensures
 
--- src/gathering.rt:21:1
 pub returns : goal.returns
-returns g c = ?
+returns g c upto these next =
+    let s = g.S.Source.model c.args.source.now in
+    passed_says s (listing c.args.conflicts.now) (nodes_of c.args.plan.now) c.args.lines.now c.args.lines.now c.args.count c.requires.within refl upto c.args.line next these
+    (not_sure s (listing c.args.conflicts.now) (nodes_of c.args.plan.now) c.args.line.columns c.is_sure.new.marks c.if-is_sure.ensures)

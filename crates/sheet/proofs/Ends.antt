@@ -1,0 +1,1 @@
+-- When no candidate is left.
