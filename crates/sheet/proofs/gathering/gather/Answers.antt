@@ -1,35 +1,23 @@
-use Rattle.std.proofs.Common.{rules, ◌≡◌, ◌≤◌, None, Some, MatchResult, length, take, Option, ℕ, ◌+◌, ◌-◌, ◌*◌, ◌<◌, ◌/◌, ◌%◌, Bool, true, false, nat_eq, nat_lt, List, [], ◌∷◌, ◌++◌, slice_index_or, slice_set, bit_and, bit_or, Fits, w8, w32, w64, Bor, MutBor}
+use Rattle.std.proofs.Common.{sym, subst}
+use Rattle.std.specs.Prelude.{MatchResult}
 use Rattle.store.specs.Held.{rows_of}
 use Rattle.rules.specs.Entries.{listing}
 use Rattle.plan.specs.Plans.{nodes_of}
-use Rattle.plan.specs.declared.line.Line.{Line}
-use Rattle.candidates.specs.Candidates.{Next}
-use Rattle.cores.specs.Backing.{HeldIn}
-use Rattle.cores.specs.Settling.{listed_places}
-use Rattle.sheet.specs.Sheets.{Readable, TooMany, SheetOf}
-use Rattle.sheet.specs.Gathering.{Gathered, Grown}
+use Rattle.candidates.specs.Candidates.{NextSays}
+use Rattle.sheet.proofs.Ends.{smaller, gone_on, ended}
 use Rattle.sheet.proofs.gathering.gather.Goals as goal
 
--- src/gathering.rt:62:5
-pub loop-line-init : goal.loop-line-init
-loop-line-init g c = ?
-
--- src/gathering.rt:63:17
-pub enter_if_sure-requires-clause-within : goal.enter_if_sure-requires-clause-within
-enter_if_sure-requires-clause-within g c = ?
-
--- src/gathering.rt:63:17
-pub returns-in_err-count : goal.returns-in_err-count
-returns-in_err-count g c = ?
-
--- src/gathering.rt:62:5
 pub loop-line-smaller : goal.loop-line-smaller
-loop-line-smaller g c = ?
+loop-line-smaller g c = smaller (nodes_of c.args.plan.now) (rows_of (g.S.Source.model c.args.source.now).places) c.loop-line.last c.in-Some.line c.in-Some.ensures
 
--- src/gathering.rt:62:5
 pub loop-line-preserved : goal.loop-line-preserved
-loop-line-preserved g c = ?
+loop-line-preserved g c =
+    let s = g.S.Source.model c.args.source.now in
+    gone_on s (listing c.args.conflicts.now) (nodes_of c.args.plan.now) c.args.lines.now c.loop-line.lines c.enter_if_sure.new.lines c.loop-line.last c.in-Some.line c.loop-line.count c.in_ok-count.count c.loop-line.auto.lines
+    c.loop-line.invariant (c.in_ok-count.ensures c.loop-line.last c.loop-line.invariant.gathered c.in-Some.ensures)
 
--- src/gathering.rt:46:1
 pub returns : goal.returns
-returns g c = ?
+returns g c =
+    let s = g.S.Source.model c.args.source.now in
+    ended s (listing c.args.conflicts.now) c.args.plan.now c.requires.some c.args.lines.now c.loop-line.lines c.loop-line.last c.loop-line.count c.loop-line.invariant
+    (subst (NextSays (nodes_of c.args.plan.now) (rows_of s.places) c.loop-line.last) c.in_default.is c.next_candidate.ensures)
