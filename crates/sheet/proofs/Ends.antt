@@ -1,5 +1,5 @@
 -- Where the candidates begin and end, and that they get fewer.
-use Rattle.std.proofs.Common.{◌≡◌, ℕ, ◌+◌, ◌-◌, ◌≤◌, ◌<◌, Bool, true, false, cond, List, [], ◌∷◌, length, take, drop, map, filter, None, Some, Option, refl, sym, ap, ◌∙◌, subst, arith, drop-drop}
+use Rattle.std.proofs.Common.{◌≡◌, ℕ, zero, suc, ◌+◌, ◌-◌, ◌≤◌, ◌<◌, Bool, true, false, cond, List, [], ◌∷◌, length, drop, map, replicate, None, Some, Option, refl, sym, ap, ◌∙◌, subst, arith, drop-drop}
 use mathlib.Core.List.Memᴰ
 use mathlib.Core.List.{Memᴰ}
 use Rattle.std.specs.List.{count_by}
@@ -19,7 +19,7 @@ use Rattle.candidates.specs.Candidates.{before, candidates_at, is_after, is_cand
 use Rattle.candidates.proofs.Before.{irreflexive, transitive}
 use Rattle.candidates.proofs.Candidates.{all_candidates}
 use Rattle.sheet.specs.Gathering.{Gathered, Grown}
-use Rattle.sheet.specs.Sheets.{Readable, SheetOf}
+use Rattle.sheet.specs.Sheets.{columns_of, Readable, SheetOf}
 
 -- so many candidates are past a line
 abbrev pub left : List Node → List Row → Option Line → ℕ
@@ -89,3 +89,11 @@ ended s listed plan (R, ok) old new upto n these none = record {
   };
   rest = these.rest;
 }
+
+-- lines that are all made the same
+all_one : (n : ℕ) (line : Line) → columns_of (replicate n line) ≡ replicate n line.columns
+all_one zero line = refl
+all_one (suc n) line = ap (λ t. line.columns ∷ t) (all_one n line)
+
+pub wiped : (lines : List Line) (n m : ℕ) → lines ≡ replicate n (record { columns = replicate 8 0 }) → n ≡ m → columns_of lines ≡ replicate m (replicate 8 0)
+wiped lines n m e same = ap columns_of e ∙ all_one n (record { columns = replicate 8 0 }) ∙ ap (λ n. replicate n (replicate 8 0)) same
