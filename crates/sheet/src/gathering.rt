@@ -1,14 +1,11 @@
 // Gathering the sure lines among the candidates.
-ghost use Rattle.std.specs.Prelude.{◌≡◌, ◌≤◌, None, Some, MatchResult, length, take, Option};
-ghost use Rattle.store.specs.Held.{rows_of};
+ghost use Rattle.std.specs.Prelude.{◌≤◌, length};
 ghost use Rattle.rules.specs.Entries.{listing};
 ghost use Rattle.plan.specs.Plans.{nodes_of};
-ghost use Rattle.plan.specs.declared.line.Line.{Line};
-ghost use Rattle.candidates.specs.Candidates.{Next};
 ghost use Rattle.cores.specs.Backing.{HeldIn};
 ghost use Rattle.cores.specs.Settling.{listed_places};
-ghost use Rattle.sheet.specs.Sheets.{Readable, TooMany, SheetOf};
-ghost use Rattle.sheet.specs.Gathering.{Gathered, Grown};
+ghost use Rattle.sheet.specs.Sheets.{Readable};
+ghost use Rattle.sheet.specs.Gathering.{LookSays, GatherSays};
 
 use candidates::next_candidate;
 use ordered::{Full, enter};
@@ -17,8 +14,8 @@ use rules::Conflicts;
 use store::Source;
 use verdict::is_sure;
 
-// One candidate more, the next after those whose sure ones are the first `count` of the lines: it is entered if it is sure.
-fn enter_if_sure<S: Source>(
+// Looks at one candidate more, the next after those whose sure ones are the first `count` of the lines: it is entered if it is sure.
+fn look_at<S: Source>(
     source: &S,
     conflicts: &Conflicts,
     plan: &Plan,
@@ -30,11 +27,7 @@ fn enter_if_sure<S: Source>(
     requires held { HeldIn (S.Source.model source.now).places (listed_places (listing conflicts.now)) }
     requires room { 256 ≤ length marks.old }
     requires within { count ≤ length lines.old }
-    ensures { (upto : Option Line) → Gathered (S.Source.model source.now) (listing conflicts.now) (nodes_of plan.now) upto (take count lines.old) →
-        Next (nodes_of plan.now) (rows_of (S.Source.model source.now).places) upto line.columns →
-        MatchResult result
-        (Grown (S.Source.model source.now) (listing conflicts.now) (nodes_of plan.now) lines.old lines.new (Some line) count)
-        (λ _. TooMany (S.Source.model source.now) (listing conflicts.now) (nodes_of plan.now) (length lines.old)) }
+    ensures { LookSays (S.Source.model source.now) (listing conflicts.now) (nodes_of plan.now) lines.old lines.new line count result }
 {
     if is_sure(source, conflicts, plan, &line, marks) {
         return enter(lines, count, line);
@@ -53,14 +46,12 @@ pub fn gather<S: Source>(
     requires held { HeldIn (S.Source.model source.now).places (listed_places (listing conflicts.now)) }
     requires some { Readable (S.Source.model source.now) (listing conflicts.now) }
     requires room { 256 ≤ length marks.old }
-    ensures { MatchResult result
-        (SheetOf (S.Source.model source.now) (listing conflicts.now) (nodes_of plan.now) lines.old lines.new)
-        (λ _. TooMany (S.Source.model source.now) (listing conflicts.now) (nodes_of plan.now) (length lines.old)) }
+    ensures { GatherSays (S.Source.model source.now) (listing conflicts.now) (nodes_of plan.now) lines.old lines.new result }
 {
     let mut count = 0;
     let mut last = None;
     while let Some(line) = next_candidate(source, plan, last) {
-        count = enter_if_sure(source, conflicts, plan, line, marks, lines, count)?;
+        count = look_at(source, conflicts, plan, line, marks, lines, count)?;
         last = Some(line);
     }
     Ok(count)

@@ -13,7 +13,7 @@ loop-line-smaller g c = smaller (nodes_of c.args.plan.now) (rows_of (g.S.Source.
 pub loop-line-preserved : goal.loop-line-preserved
 loop-line-preserved g c =
     let s = g.S.Source.model c.args.source.now in
-    gone_on s (listing c.args.conflicts.now) (nodes_of c.args.plan.now) c.args.lines.now c.loop-line.lines c.enter_if_sure.new.lines c.loop-line.last c.in-Some.line c.loop-line.count c.in_ok-count.count c.loop-line.auto.lines
+    gone_on s (listing c.args.conflicts.now) (nodes_of c.args.plan.now) c.args.lines.now c.loop-line.lines c.look_at.new.lines c.loop-line.last c.in-Some.line c.loop-line.count c.in_ok-count.count c.loop-line.auto.lines
     c.loop-line.invariant (c.in_ok-count.ensures c.loop-line.last c.loop-line.invariant.gathered c.in-Some.ensures)
 
 pub returns : goal.returns

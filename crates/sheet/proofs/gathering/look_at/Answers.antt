@@ -2,7 +2,7 @@ use Rattle.std.proofs.Common.{refl}
 use Rattle.rules.specs.Entries.{listing}
 use Rattle.plan.specs.Plans.{nodes_of}
 use Rattle.sheet.proofs.Steps.{not_sure, entered_says, passed_says}
-use Rattle.sheet.proofs.gathering.enter_if_sure.Goals as goal
+use Rattle.sheet.proofs.gathering.look_at.Goals as goal
 
 pub returns-then-is_sure : goal.returns-then-is_sure
 returns-then-is_sure g c upto these next =
