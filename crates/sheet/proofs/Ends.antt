@@ -1,6 +1,5 @@
 -- Where the candidates begin and end, and that they get fewer.
 use Rattle.std.proofs.Common.{◌≡◌, ℕ, zero, suc, ◌+◌, ◌-◌, ◌≤◌, ◌<◌, Bool, true, false, cond, List, [], ◌∷◌, length, drop, map, replicate, None, Some, Option, refl, sym, ap, ◌∙◌, subst, arith, drop-drop}
-use mathlib.Core.List.Memᴰ
 use mathlib.Core.List.{Memᴰ}
 use Rattle.std.specs.List.{count_by}
 use Rattle.std.proofs.lemmas.Bool.{both_ways}
@@ -15,10 +14,10 @@ use Rattle.plan.specs.declared.line.Line.{Line}
 use Rattle.plan.specs.declared.node.Node.{Node}
 use Rattle.plan.specs.declared.plan.Plan.{Plan}
 use Rattle.plan.proofs.Members.{line_in}
-use Rattle.candidates.specs.Candidates.{before, candidates_at, is_after, is_candidate, Next, NextSays}
+use Rattle.candidates.specs.Candidates.{before, candidates_at, is_after, Next, NextSays}
 use Rattle.candidates.proofs.Before.{irreflexive, transitive}
 use Rattle.candidates.proofs.Candidates.{all_candidates}
-use Rattle.sheet.specs.Gathering.{Gathered, Grown}
+use Rattle.sheet.specs.Gathering.{Grown}
 use Rattle.sheet.specs.Sheets.{columns_of, Readable, SheetOf}
 
 -- so many candidates are past a line

@@ -1,12 +1,11 @@
 -- What is found over places is the verdict over rows.
-use Rattle.std.proofs.Common.{◌≡◌, ℕ, zero, suc, ◌+◌, ◌<◌, ◌≤◌, Bool, true, false, not, nat_eq, leb, ltb, List, [], ◌∷◌, map, length, get_or, None, Option, sym, refl, ap, ◌∙◌, subst, ⊎_elim, arith, length-take}
+use Rattle.std.proofs.Common.{◌≡◌, ℕ, zero, suc, ◌+◌, ◌<◌, ◌≤◌, Bool, true, false, not, nat_eq, ltb, List, [], ◌∷◌, map, length, get_or, None, Option, sym, refl, ap, ◌∙◌, subst, ⊎_elim, arith, length-take}
 use mathlib.Core.List.{Memᴰ}
 use Rattle.std.specs.List.{range_with_len}
 use Rattle.std.specs.Prelude.{MatchBool}
-use Rattle.std.proofs.lemmas.Bool.{both_ways, lt-ltb, le-leb, eqb-true, cases_lt, cases_eq}
+use Rattle.std.proofs.lemmas.Bool.{both_ways, lt-ltb, eqb-true, cases_lt, cases_eq}
 use Rattle.std.proofs.lemmas.List.{get_or_past}
 use Rattle.std.proofs.lemmas.Simd.{map-map}
-use Rattle.fault.specs.Questions.{ask}
 use Rattle.store.specs.Held.{rows_of}
 use Rattle.store.specs.Lists.{all}
 use Rattle.store.specs.Store.{Store, Kept}
@@ -20,12 +19,9 @@ use Rattle.rules.specs.declared.conflict.Conflict.{Conflict}
 use Rattle.rules.proofs.Apart.{apart_put, apart_kept}
 use Rattle.rules.proofs.Ascents.{place_in, place_has}
 use Rattle.rules.proofs.Members.{kept_put, kept_pick}
-use Rattle.plan.specs.Answers.{plan_width}
 use Rattle.plan.specs.Plans.{nodes_of}
 use Rattle.plan.specs.Truths.{named_rows}
-use Rattle.plan.specs.declared.node.Node.{Node}
 use Rattle.plan.specs.declared.plan.Plan.{Plan}
-use Rattle.answers.specs.Asking.{leaves_no, line_no, or_then}
 use Rattle.cores.specs.Backing.{one_of, Small, all_held, HeldIn}
 use Rattle.cores.specs.Settling.{listed_places, Located, lost_by, NoWay}
 use Rattle.cores.specs.Sure.{Sure, Core}
@@ -35,8 +31,7 @@ use Rattle.cores.proofs.Standing.{held_marked}
 use Rattle.cores.proofs.Surely.{sure_by_places}
 use Rattle.verdict.specs.Marking.{lists_of, have_bytes, is_in}
 use Rattle.verdict.specs.Trying.{Lost}
-use Rattle.verdict.specs.Verdicts.{marked_of, unless_asked, verdict_no, conflicts_of, CoreMarked}
-use Rattle.verdict.specs.declared.refusal.Refusal.TheVariants.{FewMarks, FewRows}
+use Rattle.verdict.specs.Verdicts.{marked_of, conflicts_of, CoreMarked}
 
 -- the conflicts in memory are those that are listed
 pub lists_are : (cs : List Conflict) (listed : List Listed) → map listed_as cs ≡ listed → lists_of cs ≡ listed_places listed

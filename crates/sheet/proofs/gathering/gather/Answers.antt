@@ -1,5 +1,4 @@
-use Rattle.std.proofs.Common.{sym, subst}
-use Rattle.std.specs.Prelude.{MatchResult}
+use Rattle.std.proofs.Common.{subst}
 use Rattle.store.specs.Held.{rows_of}
 use Rattle.rules.specs.Entries.{listing}
 use Rattle.plan.specs.Plans.{nodes_of}
