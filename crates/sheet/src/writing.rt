@@ -6,7 +6,7 @@ ghost use Rattle.cores.specs.Backing.{HeldIn};
 ghost use Rattle.cores.specs.Settling.{listed_places};
 ghost use Rattle.sheet.specs.Sheets.{Readable, SheetSays};
 
-use crate::gathering::gather;
+use crate::gathering::Gathering;
 use crate::refusal::Refusal;
 use answers::check_leaves;
 use plan::{Line, Plan};
@@ -36,7 +36,12 @@ pub fn sheet<S: Source>(
     if guard.bytes.len() < MARK_BYTES {
         return Err(Refusal::FewMarks);
     }
-    let Ok(count) = gather(source, conflicts, plan, guard.bytes, lines) else {
+    let gathering = Gathering {
+        source,
+        conflicts,
+        plan,
+    };
+    let Ok(count) = gathering.gather(guard.bytes, lines) else {
         lines.fill(NO_LINE);
         return Err(Refusal::Full);
     };
