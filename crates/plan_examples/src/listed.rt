@@ -6,9 +6,6 @@ use plan::{Node, Op, Plan, Side};
 use std::io;
 use store::{Sign, Source, Table};
 
-// More than any plan here has.
-const MOST: u32 = 32;
-
 // Lists the candidates of the plan, a line for each.
 fn list(rt: &HostRuntime, table: &Table, name: &str, nodes: &[Node]) -> io::Result<()> {
     let mut plan = Plan::new();
@@ -16,15 +13,11 @@ fn list(rt: &HostRuntime, table: &Table, name: &str, nodes: &[Node]) -> io::Resu
         return println!(rt; "{name}: refused");
     }
     println!(rt; "{name}")?;
-    let mut after = None;
-    for _ in 0..MOST {
-        after = next_candidate(table, &plan, after);
-        if let Some(line) = after {
-            let columns = line.columns;
-            println!(rt; "  {columns:?}")?;
-        } else {
-            break;
-        }
+    let mut next = next_candidate(table, &plan, None);
+    while let Some(line) = next {
+        let columns = line.columns;
+        println!(rt; "  {columns:?}")?;
+        next = next_candidate(table, &plan, Some(line));
     }
     Ok(())
 }
