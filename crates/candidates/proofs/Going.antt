@@ -64,7 +64,7 @@ later_le x y h (t ∷ cs) = elim (cases_Bool (before y t)) [
   ]
 ]
 
-later_less : (x y : List ℕ) → before x y ≡ true → (cs : List (List ℕ)) → Memᴰ y cs → later y cs < later x cs
+pub later_less : (x y : List ℕ) → before x y ≡ true → (cs : List (List ℕ)) → Memᴰ y cs → later y cs < later x cs
 later_less x y h cs (Memᴰ.head {x = t} {xs = ts} e) =
     let b : before x t ≡ true = subst (λ u. before x u ≡ true) e h in
     let a : before y t ≡ false = subst (λ u. before y u ≡ false) e (irreflexive y) in

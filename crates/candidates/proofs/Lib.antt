@@ -6,3 +6,4 @@ pub mod Products
 pub mod Candidates
 pub mod Searching
 pub mod Nexts
+pub mod Walking

@@ -7,7 +7,7 @@ use std::io;
 use store::{Row, Sign};
 
 // Relation 1 says who skates in which hall, relation 2 which halls are open; relation 3 has pairs of numbers.
-fn rows() -> [Row; 8] {
+pub(crate) fn rows() -> [Row; 8] {
     [
         row(0, 4, 0),
         row(1, 1, 7),

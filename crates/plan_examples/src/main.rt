@@ -1,8 +1,9 @@
-// Plans by example: what `fill` says of nodes, and which lines are answers.
+// Plans by example: what `fill` says of nodes, which lines are answers, and which are candidates.
 #![tactic(auto)]
 
 mod answers;
 mod asked;
+mod listed;
 mod nodes;
 mod told;
 
@@ -15,5 +16,6 @@ fn main(rt: HostRuntime) -> io::Result<()> {
     told::unfit(&rt)?;
     asked::leaves_and_choices(&rt)?;
     asked::pairs(&rt)?;
-    asked::names(&rt)
+    asked::names(&rt)?;
+    listed::candidates(&rt)
 }
