@@ -1,11 +1,11 @@
 -- What is found over places is the verdict over rows.
-use Rattle.std.proofs.Common.{◌≡◌, ℕ, zero, suc, ◌+◌, ◌<◌, ◌≤◌, true, nat_eq, leb, ltb, List, [], ◌∷◌, map, length, get_or, None, Option, sym, refl, ap, ◌∙◌, subst, ⊎_elim, arith, length-take}
+use Rattle.std.proofs.Common.{◌≡◌, ℕ, zero, suc, ◌+◌, ◌<◌, ◌≤◌, Bool, true, false, not, nat_eq, ltb, List, [], ◌∷◌, map, length, get_or, None, Option, sym, refl, ap, ◌∙◌, subst, ⊎_elim, arith, length-take}
 use mathlib.Core.List.{Memᴰ}
 use Rattle.std.specs.List.{range_with_len}
-use Rattle.std.proofs.lemmas.Bool.{both_ways, lt-ltb, le-leb, eqb-true, cases_lt, cases_eq}
+use Rattle.std.specs.Prelude.{MatchBool}
+use Rattle.std.proofs.lemmas.Bool.{both_ways, lt-ltb, eqb-true, cases_lt, cases_eq}
 use Rattle.std.proofs.lemmas.List.{get_or_past}
 use Rattle.std.proofs.lemmas.Simd.{map-map}
-use Rattle.fault.specs.Questions.{ask}
 use Rattle.store.specs.Held.{rows_of}
 use Rattle.store.specs.Lists.{all}
 use Rattle.store.specs.Store.{Store, Kept}
@@ -19,12 +19,9 @@ use Rattle.rules.specs.declared.conflict.Conflict.{Conflict}
 use Rattle.rules.proofs.Apart.{apart_put, apart_kept}
 use Rattle.rules.proofs.Ascents.{place_in, place_has}
 use Rattle.rules.proofs.Members.{kept_put, kept_pick}
-use Rattle.plan.specs.Answers.{plan_width}
 use Rattle.plan.specs.Plans.{nodes_of}
 use Rattle.plan.specs.Truths.{named_rows}
-use Rattle.plan.specs.declared.node.Node.{Node}
 use Rattle.plan.specs.declared.plan.Plan.{Plan}
-use Rattle.answers.specs.Asking.{leaves_no, line_no, or_then}
 use Rattle.cores.specs.Backing.{one_of, Small, all_held, HeldIn}
 use Rattle.cores.specs.Settling.{listed_places, Located, lost_by, NoWay}
 use Rattle.cores.specs.Sure.{Sure, Core}
@@ -34,17 +31,7 @@ use Rattle.cores.proofs.Standing.{held_marked}
 use Rattle.cores.proofs.Surely.{sure_by_places}
 use Rattle.verdict.specs.Marking.{lists_of, have_bytes, is_in}
 use Rattle.verdict.specs.Trying.{Lost}
-use Rattle.verdict.specs.Verdicts.{marked_of, unless_asked, verdict_no, conflicts_of}
-use Rattle.verdict.specs.declared.refusal.Refusal.TheVariants.{FewMarks, FewRows}
-
--- every question is answered Yes
-pub none_refused : (arity : ℕ → ℕ) (nodes : List Node) (columns : List ℕ) (size room : ℕ) → leaves_no arity nodes ≡ None → line_no (plan_width nodes) columns ≡ None → 256 ≤ size → 12 ≤ room
-    → verdict_no arity nodes columns size room ≡ None
-none_refused arity nodes columns size room h k marks rows =
-    ap (λ o. unless_asked (or_then o (line_no (plan_width nodes) columns)) (ask (leb 256 size) FewMarks (ask (leb 12 room) FewRows None))) h
-    ∙ ap (λ o. unless_asked o (ask (leb 256 size) FewMarks (ask (leb 12 room) FewRows None))) k
-    ∙ ap (λ b. ask b FewMarks (ask (leb 12 room) FewRows None)) (le-leb 256 size marks)
-    ∙ ap (λ b. ask b FewRows None) (le-leb 12 room rows)
+use Rattle.verdict.specs.Verdicts.{marked_of, conflicts_of, CoreMarked}
 
 -- the conflicts in memory are those that are listed
 pub lists_are : (cs : List Conflict) (listed : List Listed) → map listed_as cs ≡ listed → lists_of cs ≡ listed_places listed
@@ -91,7 +78,7 @@ module _ (s : Store) (kept : Kept s) (cs : List Conflict) (listed : List Listed)
   rows_are : map (rows_at s.places) (lists_of cs) ≡ conflicts_of s listed
   rows_are = ap (map (rows_at s.places)) (lists_are cs listed are) ∙ map-map (rows_at s.places) (λ (c : Listed). c.places) listed
 
-  pub judge_sure : NoWay (lists_of cs) (lost_by plan columns) leaves → Sure (rows_of s.places) (conflicts_of s listed) (nodes_of plan) columns
+  judge_sure : NoWay (lists_of cs) (lost_by plan columns) leaves → Sure (rows_of s.places) (conflicts_of s listed) (nodes_of plan) columns
   judge_sure none = subst (λ t. Sure (rows_of s.places) t (nodes_of plan) columns) rows_are (sure_by_places s kept.once (lists_of cs) held_lists plan columns leaves located none)
 
   module _ (six : length leaves ≤ 6) (marks : List ℕ) (lost : Lost (lists_of cs) (lost_by plan columns) leaves marks) where
@@ -106,12 +93,18 @@ module _ (s : Store) (kept : Kept s) (cs : List Conflict) (listed : List Listed)
     once_marked : distinct nat_eq (marked_of marks (length s.places)) ≡ true
     once_marked = apart_kept nat_eq (is_in marks) (range_with_len 0 (length s.places)) (range_once 0 (length s.places))
 
-    pub judge_few : length (marked_of marks (length s.places)) ≤ 12
+    judge_few : length (marked_of marks (length s.places)) ≤ 12
     judge_few =
         let a = different (marked_of marks (length s.places)) lost.places once_marked (all_put (one_of lost.places) (marked_of marks (length s.places)) (λ p m. sym (same_marked p) ∙ place_has m)) in
         let b = few_marked (lists_of cs) (small_lists cs) leaves six lost.way.way lost.way.choices lost.way.works.real in
         omega (arith, ap length lost.way.is)
 
-    pub judge_core : Core (rows_of s.places) (conflicts_of s listed) (nodes_of plan) columns (rows_at s.places (marked_of marks (length s.places)))
+    judge_core : Core (rows_of s.places) (conflicts_of s listed) (nodes_of plan) columns (rows_at s.places (marked_of marks (length s.places)))
     judge_core = subst (λ t. Core (rows_of s.places) t (nodes_of plan) columns (rows_at s.places (marked_of marks (length s.places)))) rows_are
         (core_by_places s kept.once (lists_of cs) held_lists (small_lists cs) plan columns leaves located lost.places lost.way (marked_of marks (length s.places)) same_marked once_marked)
+
+  -- what the search tells decides
+  pub judged : length leaves ≤ 6 → (marks : List ℕ) (found : Bool) → MatchBool found (Lost (lists_of cs) (lost_by plan columns) leaves marks) (NoWay (lists_of cs) (lost_by plan columns) leaves) →
+      MatchBool (not found) (Sure (rows_of s.places) (conflicts_of s listed) (nodes_of plan) columns) (CoreMarked s listed (nodes_of plan) columns marks)
+  judged six marks true lost = record { few = judge_few six marks lost; core = judge_core six marks lost }
+  judged six marks false none = judge_sure none

@@ -1,6 +1,6 @@
 -- One conflict more is looked at, and what it tells of the rows that are shut out.
 use Rattle.std.proofs.Common.{◌≡◌, ℕ, zero, suc, ◌+◌, ◌<◌, Bool, true, false, not, ◌||◌, eqb, ◌≢◌, List, [], ◌∷◌, ◌++◌, length, get_or, take, set, sym, refl, ap, ◌∙◌, subst, ⊎_elim, arith, get_or-set_other, get_or-set_same}
-use Rattle.std.proofs.lemmas.Bool.{both_ways, and_parts, and_from, cases_eq}
+use Rattle.std.proofs.lemmas.Bool.{both_ways, and_parts, and_from, or_left, or_right, cases_eq}
 use Rattle.std.proofs.lemmas.List.{take_more, get_or-map, length-map}
 use Rattle.std.proofs.lemmas.List.Folds.{list_any-append, list_any_at}
 use Rattle.store.specs.Lists.{any, all}
@@ -9,6 +9,11 @@ use Rattle.rules.specs.declared.conflict.Conflict.{Conflict}
 use Rattle.cores.specs.Backing.{one_of, clear_places, without}
 use Rattle.verdict.specs.Marking.{lists_of, have_bytes, is_in, lacks_only, Shuts}
 use Rattle.verdict.proofs.Places.{but_for}
+
+any_here : {A : Type 0} (p : A → Bool) (xs : List A) (i : ℕ) (d : A) → i < length xs → p (get_or xs i d) ≡ true → any p xs ≡ true
+any_here p [] i d lt h = absurd (omega arith)
+any_here p (x ∷ xs) zero d lt h = or_left (p x) (any p xs) h
+any_here p (x ∷ xs) (suc i) d lt h = or_right (p x) (any p xs) (any_here p xs i d (omega arith) h)
 
 -- sets that have the same places are the same
 pub alike : {S R : ℕ → Bool} → ((p : ℕ) → S p ≡ R p) → S ≡ R

@@ -1,5 +1,5 @@
 -- What a verdict says.
-use Rattle.std.specs.Prelude.{◌≡◌, ℕ, List, map, length, take, drop, filter, Some, None, Ok, Err, Option, Result, nat_le}
+use Rattle.std.specs.Prelude.{◌≡◌, ℕ, ◌≤◌, List, map, length, take, drop, filter, Some, None, Ok, Err, Option, Result, nat_le}
 use Rattle.std.specs.List.{range_with_len}
 use Rattle.fault.specs.Questions.{ask}
 use Rattle.store.specs.Held.{rows_of}
@@ -32,6 +32,11 @@ verdict_no arity nodes columns size room = unless_asked (plain_no arity nodes co
 -- the rows of each listed conflict
 abbrev pub conflicts_of : Store → List Listed → List (List Row)
 conflicts_of s listed = map (λ c. rows_at s.places c.places) listed
+
+-- the rows that are marked as in are a core of the line
+pub record CoreMarked (s : Store) (listed : List Listed) (nodes : List Node) (columns marks : List ℕ) : Type 0 where
+  pub few : length (marked_of marks (length s.places)) ≤ 12
+  pub core : Core (rows_of s.places) (conflicts_of s listed) nodes columns (rows_at s.places (marked_of marks (length s.places)))
 
 -- the line is sure; or it is not, since the first n rows that are then in the caller's memory are a core; or the first
 -- question that is answered No. Nothing else is written to the caller's memory.

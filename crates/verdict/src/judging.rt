@@ -6,9 +6,8 @@ ghost use Rattle.cores.specs.Backing.{HeldIn};
 ghost use Rattle.cores.specs.Settling.{listed_places};
 ghost use Rattle.verdict.specs.Verdicts.{VerdictSays};
 
-use crate::cases::Cases;
+use crate::deciding::is_sure;
 use crate::guard::Marks;
-use crate::locating::locate;
 use crate::outcome::Verdict;
 use crate::refusal::Refusal;
 use crate::writing::write_core;
@@ -18,7 +17,7 @@ use rules::Conflicts;
 use store::{Row, Source};
 
 // One for each place that a source can have.
-const MARK_BYTES: usize = 256;
+pub const MARK_BYTES: usize = 256;
 
 // As many rows as a core can have: of each of six leaves one row that is in, or two others of a conflict.
 const CORE_ROWS: usize = 12;
@@ -46,14 +45,7 @@ pub fn verdict<S: Source>(
     if core.len() < CORE_ROWS {
         return Err(Refusal::FewRows);
     }
-    let leaves = locate(source, plan, line);
-    let cases = Cases {
-        conflicts: conflicts.as_slice(),
-        plan,
-        line,
-        leaves: leaves.as_slice(),
-    };
-    if !cases.try_each(guard.bytes) {
+    if is_sure(source, conflicts, plan, line, guard.bytes) {
         return Ok(Verdict::Sure);
     }
     Ok(Verdict::Unsure(write_core(source, guard.bytes, core)))

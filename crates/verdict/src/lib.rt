@@ -12,6 +12,7 @@
 #![tactic(auto)]
 
 mod cases;
+mod deciding;
 mod guard;
 mod judging;
 mod locating;
@@ -23,6 +24,8 @@ mod settling;
 mod sides;
 mod writing;
 
-pub use judging::verdict;
+pub use deciding::is_sure;
+pub use guard::Marks;
+pub use judging::{MARK_BYTES, verdict};
 pub use outcome::Verdict;
 pub use refusal::Refusal;

@@ -1,0 +1,4 @@
+pub mod Refusals
+pub mod Sheets
+pub mod Gathering
+pub mod Laws
