@@ -4,6 +4,8 @@ pub mod Lent
 pub mod Lives
 pub mod Marks
 pub mod Running
+pub mod Sheeting
+pub mod SureLists
 pub mod Tested
 mod Told
 pub mod Turning

@@ -12,7 +12,7 @@ use Rattle.book.specs.Plain.{Plain, Asked, Told, entering, striking, ruling, tak
 use Rattle.book.specs.Runs.{History, more, Agrees, Life, LivesOn}
 use Rattle.book.specs.Calls.{EntrySays, StrikingSays, RuleSays, taken_by, ruled_by}
 use Rattle.book.specs.declared.refusal.Refusal.{Refusal}
-use Rattle.book.specs.declared.refusal.Refusal.TheVariants.{Source, EntryConflicts, TooManyRules, Rule, RuleConflicts, NoSuchConflict, Unanswered, Verdict as NoVerdict}
+use Rattle.book.specs.declared.refusal.Refusal.TheVariants.{Source, EntryConflicts, TooManyRules, Rule, RuleConflicts, NoSuchConflict, Unanswered, Verdict as NoVerdict, Sheet as NoSheet}
 use Rattle.book.proofs.Answered.{number_of, entry_asks, strike_asks, goes_on, stops}
 use Rattle.book.proofs.Held.{agrees_put, few_put, agrees_struck, few_with, few_more, few_ruled, agrees_ruled}
 
@@ -48,6 +48,7 @@ module _ (s s' : Store) (rules : List Denial) (row : Row) where
   entry_lives (Err NoSuchConflict) no_way h life = absurd no_way
   entry_lives (Err (Unanswered e)) no_way h life = absurd no_way
   entry_lives (Err (NoVerdict e)) no_way h life = absurd no_way
+  entry_lives (Err (NoSheet e)) no_way h life = absurd no_way
 
   pub striking_lives : OnceIn s.places → (r : Result ℕ Refusal) → StrikingSays s s' row r → LivesOn s rules s' rules (striking row) (taken_by r)
   striking_lives once (Ok place) struck h life =
@@ -67,6 +68,7 @@ module _ (s s' : Store) (rules : List Denial) (row : Row) where
   striking_lives once (Err NoSuchConflict) no_way h life = absurd no_way
   striking_lives once (Err (Unanswered e)) no_way h life = absurd no_way
   striking_lives once (Err (NoVerdict e)) no_way h life = absurd no_way
+  striking_lives once (Err (NoSheet e)) no_way h life = absurd no_way
 
 module _ (s : Store) (rules after : List Denial) (rule : Denial) where
   abbrev rule_number : RuleRefusal → ℕ
@@ -112,3 +114,4 @@ module _ (s : Store) (rules after : List Denial) (rule : Denial) where
   rule_lives (Err NoSuchConflict) no_way h life = absurd no_way
   rule_lives (Err (Unanswered e)) no_way h life = absurd no_way
   rule_lives (Err (NoVerdict e)) no_way h life = absurd no_way
+  rule_lives (Err (NoSheet e)) no_way h life = absurd no_way

@@ -6,6 +6,7 @@ use Rattle.std.proofs.lemmas.Bool.{both_ways}
 use Rattle.ordered.specs.declared.entry.Full.{Full as TooFull}
 use Rattle.store.specs.Store.{Store}
 use Rattle.store.specs.declared.row.Row.{Row}
+use Rattle.plan.specs.declared.line.Line.{Line}
 use Rattle.rules.specs.Rules.{Denial}
 use Rattle.book.specs.Books.{RuledSays}
 use Rattle.book.specs.Calls.{ruled_by}
@@ -16,10 +17,10 @@ use Rattle.book.specs.declared.log.Log.{Log}
 use Rattle.book.specs.declared.refusal.Refusal.{Refusal}
 use Rattle.book.specs.declared.refusal.Refusal.TheVariants.{RuleConflicts}
 
-pub ruled_told : (core : List Row) (r : Result ℕ Refusal) (m : Result Done Refusal) (P : ℕ → Done → Type 0) → ((n : ℕ) (d : Done) → P n d → d ≡ Ruled n) → MatchResult r (λ n. IsOkAnd m (P n)) (λ e. m ≡ Err e) → ruled_by r ≡ told_of core m
-ruled_told core (Ok n) (Ok d) P is p = ap (λ (x : Done). told_of core (Ok x)) (sym (is n d p))
-ruled_told core (Ok n) (Err e) P is p = absurd p
-ruled_told core (Err e) m P is same = ap (told_of core) (sym same)
+pub ruled_told : (core : List Row) (lines : List Line) (r : Result ℕ Refusal) (m : Result Done Refusal) (P : ℕ → Done → Type 0) → ((n : ℕ) (d : Done) → P n d → d ≡ Ruled n) → MatchResult r (λ n. IsOkAnd m (P n)) (λ e. m ≡ Err e) → ruled_by r ≡ told_of core lines m
+ruled_told core lines (Ok n) (Ok d) P is p = ap (λ (x : Done). told_of core lines (Ok x)) (sym (is n d p))
+ruled_told core lines (Ok n) (Err e) P is p = absurd p
+ruled_told core lines (Err e) m P is same = ap (told_of core lines) (sym same)
 
 module _ (s : Store) (before after : Log) (rule : Denial) where
   pub rule_taken : (r : Result Unit TooFull) (m : Result Unit Refusal) (x : Unit) → m ≡ Ok x → is_ok m ≡ is_ok r → RuledSays s before after rule r → RuledSays s before after rule (Ok x)

@@ -21,7 +21,7 @@ use Rattle.book.specs.Calls.{JudgingSays, judged_by}
 use Rattle.book.specs.Plain.{Plain, judging, judging_no, sure, unsure, refused}
 use Rattle.book.specs.Runs.{Agrees, LivesOn}
 use Rattle.book.specs.declared.refusal.Refusal.{Refusal}
-use Rattle.book.specs.declared.refusal.Refusal.TheVariants.{Source, EntryConflicts, TooManyRules, Rule, RuleConflicts, NoSuchConflict, Unanswered, Verdict as NoVerdict}
+use Rattle.book.specs.declared.refusal.Refusal.TheVariants.{Source, EntryConflicts, TooManyRules, Rule, RuleConflicts, NoSuchConflict, Unanswered, Verdict as NoVerdict, Sheet as NoSheet}
 use Rattle.book.proofs.Answered.{goes_on, stops}
 use Rattle.book.proofs.Lives.{on}
 use Rattle.book.proofs.Turning.{sure_over, core_over}
@@ -42,6 +42,12 @@ module _ (s : Store) (rules : List Denial) (listed : List Listed) (exact : Lists
   judged Sure says = judged_sure says
   judged (Unsure n) says = judged_unsure n says
 
+-- the readings of the plain book are those of the source
+pub plain_reads : (s : Store) (rules : List Denial) (p : Plain) → Agrees p s rules → (R : Rows) → reading (rows_of s.places) (conflicts (rows_of s.places) rules) R ≡ reading p.rows (conflicts p.rows p.rules) R
+plain_reads s rules p both R =
+    sym ((same_members p.rows (rows_of s.places) both.rows rules).1 R)
+    ∙ ap (λ rs. reading p.rows (conflicts p.rows rs) R) (sym both.taken)
+
 module _ (s : Store) (rules : List Denial) (plan : Plan) (columns : List ℕ) (size : ℕ) (before after : List Row) where
   abbrev number_of : Unjudged → ℕ
   number_of e = (verdict_notice e).number
@@ -53,13 +59,6 @@ module _ (s : Store) (rules : List Denial) (plan : Plan) (columns : List ℕ) (s
   judging_asks : (p : Plain) → Agrees p s rules → judging_no p (nodes_of plan) columns size (length before) ≡ option_map number_of question
   judging_asks p both = ap (λ (arity : ℕ → ℕ). option_map number_of (verdict_no arity (nodes_of plan) columns size (length before))) both.arity
 
-  module _ (p : Plain) (both : Agrees p s rules) where
-    -- its readings are those of the source
-    plain_reads : (R : Rows) → reading (rows_of s.places) (conflicts (rows_of s.places) rules) R ≡ reading p.rows (conflicts p.rows p.rules) R
-    plain_reads R =
-        sym ((same_members p.rows (rows_of s.places) both.rows rules).1 R)
-        ∙ ap (λ rs. reading p.rows (conflicts p.rows rs) R) (sym both.taken)
-
   pub judging_lives : (r : Result Verdict Refusal) → JudgingSays s rules (nodes_of plan) columns size before after r →
       LivesOn s rules s rules (judging (nodes_of plan) columns size (length before)) (judged_by after r)
   judging_lives (Ok Sure) (granted, is, _) h life =
@@ -67,14 +66,14 @@ module _ (s : Store) (rules : List Denial) (plan : Plan) (columns : List ℕ) (s
       let both = life.agrees in
       on h s s rules rules (judging (nodes_of plan) columns size (length before)) sure life p
       (goes_on _ p sure p (judging_no p (nodes_of plan) columns size (length before)) (judging_asks p both ∙ ap (option_map number_of) granted)
-      (sure_over plan columns (rows_of s.places) p.rows (conflicts (rows_of s.places) rules) (conflicts p.rows p.rules) (λ r. sym (both.rows r)) (plain_reads p both) is, refl))
+      (sure_over plan columns (rows_of s.places) p.rows (conflicts (rows_of s.places) rules) (conflicts p.rows p.rules) (λ r. sym (both.rows r)) (plain_reads s rules p both) is, refl))
       both
   judging_lives (Ok (Unsure n)) (granted, is, _, _) h life =
       let p = life.plain in
       let both = life.agrees in
       on h s s rules rules (judging (nodes_of plan) columns size (length before)) (unsure (take n after)) life p
       (goes_on _ p (unsure (take n after)) p (judging_no p (nodes_of plan) columns size (length before)) (judging_asks p both ∙ ap (option_map number_of) granted)
-      (core_over plan columns (rows_of s.places) p.rows (conflicts (rows_of s.places) rules) (conflicts p.rows p.rules) (λ r. sym (both.rows r)) (plain_reads p both) (take n after) is, refl))
+      (core_over plan columns (rows_of s.places) p.rows (conflicts (rows_of s.places) rules) (conflicts p.rows p.rules) (λ r. sym (both.rows r)) (plain_reads s rules p both) (take n after) is, refl))
       both
   judging_lives (Err (Source e)) no_way h life = absurd no_way
   judging_lives (Err EntryConflicts) no_way h life = absurd no_way
@@ -83,6 +82,7 @@ module _ (s : Store) (rules : List Denial) (plan : Plan) (columns : List ℕ) (s
   judging_lives (Err RuleConflicts) no_way h life = absurd no_way
   judging_lives (Err NoSuchConflict) no_way h life = absurd no_way
   judging_lives (Err (Unanswered e)) no_way h life = absurd no_way
+  judging_lives (Err (NoSheet e)) no_way h life = absurd no_way
   judging_lives (Err (NoVerdict e)) (asked, _) h life =
       let p = life.plain in
       on h s s rules rules (judging (nodes_of plan) columns size (length before)) (refused (number_of e)) life p

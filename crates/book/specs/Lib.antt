@@ -1,3 +1,4 @@
+pub mod SureLines
 pub mod Plain
 pub mod Runs
 pub mod Refusals

@@ -4,30 +4,33 @@ use Rattle.store.specs.Store.{Store}
 use Rattle.store.specs.declared.row.Row.{Row}
 use Rattle.rules.specs.Rules.{Denial}
 use Rattle.plan.specs.Plans.{nodes_of}
+use Rattle.plan.specs.declared.line.Line.{Line}
 use Rattle.verdict.specs.declared.outcome.Verdict.TheVariants.{Sure, Unsure}
-use Rattle.book.specs.Plain.{Asked, entering, striking, ruling, judging, Told, taken, ruled, sure, unsure, refused}
+use Rattle.book.specs.Plain.{Asked, entering, striking, ruling, judging, listing, Told, taken, ruled, sure, unsure, listed, refused}
 use Rattle.book.specs.Refusals.{notice_of}
 use Rattle.book.specs.Runs.{History, opening, more, opened, Life}
 use Rattle.book.specs.declared.call.Call.{Call}
-use Rattle.book.specs.declared.call.Call.TheVariants.{Enter, Strike, Rule, Verdict}
+use Rattle.book.specs.declared.call.Call.TheVariants.{Enter, Strike, Rule, Verdict, Sheet}
 use Rattle.book.specs.declared.call.Done.{Done}
-use Rattle.book.specs.declared.call.Done.TheVariants.{Taken, Ruled, Judged}
+use Rattle.book.specs.declared.call.Done.TheVariants.{Taken, Ruled, Judged, Listed}
 use Rattle.book.specs.declared.refusal.Refusal.{Refusal}
 
--- what a call asks, where the caller lends so many mark bytes and rows: a call has as many of each as it names, or all that there are
-abbrev pub asked_by : ℕ → ℕ → Call → Asked
-asked_by lent_marks lent_rows (Enter row) = entering row
-asked_by lent_marks lent_rows (Strike row) = striking row
-asked_by lent_marks lent_rows (Rule atoms comparisons) = ruling (record { atoms = atoms.now; comparisons = comparisons.now })
-asked_by lent_marks lent_rows (Verdict plan line marks core) = judging (nodes_of plan.now) line.columns (min marks lent_marks) (min core lent_rows)
+-- what a call asks, where the caller lends so many mark bytes, rows and lines: a call has as many of each as it names, or all that there are
+abbrev pub asked_by : ℕ → ℕ → ℕ → Call → Asked
+asked_by lent_marks lent_rows lent_lines (Enter row) = entering row
+asked_by lent_marks lent_rows lent_lines (Strike row) = striking row
+asked_by lent_marks lent_rows lent_lines (Rule atoms comparisons) = ruling (record { atoms = atoms.now; comparisons = comparisons.now })
+asked_by lent_marks lent_rows lent_lines (Verdict plan line marks core) = judging (nodes_of plan.now) line.columns (min marks lent_marks) (min core lent_rows)
+asked_by lent_marks lent_rows lent_lines (Sheet plan marks lines) = listing (nodes_of plan.now) (min marks lent_marks) (min lines lent_lines)
 
--- what an outcome tells, where the caller's rows are these afterwards: a core by its rows, a refusal by its number
-abbrev pub told_of : List Row → Result Done Refusal → Told
-told_of core (Ok Taken) = taken
-told_of core (Ok (Ruled n)) = ruled n
-told_of core (Ok (Judged Sure)) = sure
-told_of core (Ok (Judged (Unsure n))) = unsure (take n core)
-told_of core (Err e) = refused (notice_of e).number
+-- what an outcome tells, where the caller's rows and lines are these afterwards: a core by its rows, a sheet by its lines, a refusal by its number
+abbrev pub told_of : List Row → List Line → Result Done Refusal → Told
+told_of core lines (Ok Taken) = taken
+told_of core lines (Ok (Ruled n)) = ruled n
+told_of core lines (Ok (Judged Sure)) = sure
+told_of core lines (Ok (Judged (Unsure n))) = unsure (take n core)
+told_of core lines (Ok (Listed n)) = listed (take n lines)
+told_of core lines (Err e) = refused (notice_of e).number
 
 -- the history h, with these calls and what was told of each, is the history after
 abbrev pub Ran : History → List Asked → List Told → History → Type 0

@@ -21,6 +21,12 @@ pub enum Call<'a> {
         marks: usize,
         core: usize,
     },
+    // All sure lines of a plan, with so many of the mark bytes and of the lines that the caller lends, as for a verdict.
+    Sheet {
+        plan: &'a Plan,
+        marks: usize,
+        lines: usize,
+    },
 }
 
 // What a call did that was not refused.
@@ -32,6 +38,8 @@ pub enum Done {
     Ruled(usize),
     // A verdict was given; the rows of a core are in the caller's.
     Judged(Verdict),
+    // So many lines are sure, and they are at the front of the caller's.
+    Listed(usize),
 }
 
 pub type Outcome = Result<Done, Refusal>;

@@ -23,6 +23,8 @@ pub enum Refusal {
     Unanswered(answers::Refusal),
     // There is no verdict.
     Verdict(verdict::Refusal),
+    // There is no sheet.
+    Sheet(sheet::Refusal),
 }
 
 // The number, layer and position that the refusing layer tells.
@@ -39,6 +41,7 @@ impl From<Refusal> for Notice {
             Refusal::NoSuchConflict => Notice::new(46, 0),
             Refusal::Unanswered(refusal) => Notice::from(refusal),
             Refusal::Verdict(refusal) => Notice::from(refusal),
+            Refusal::Sheet(refusal) => Notice::from(refusal),
         }
     }
 }
@@ -72,5 +75,13 @@ impl From<verdict::Refusal> for Refusal {
 
     fn from(refusal: verdict::Refusal) -> Refusal {
         Refusal::Verdict(refusal)
+    }
+}
+
+impl From<sheet::Refusal> for Refusal {
+    ghost from_gives = { λ refusal r. r ≡ Refusal.Sheet refusal };
+
+    fn from(refusal: sheet::Refusal) -> Refusal {
+        Refusal::Sheet(refusal)
     }
 }

@@ -32,10 +32,19 @@ pub(crate) fn candidates(rt: &HostRuntime) -> io::Result<()> {
     list(rt, &table, "candidates of a leaf", &[Node::open(1, 2)])?;
     let equal = choice(0, Side::Column(0), Sign::Equal, Side::Column(1));
     list(rt, &table, "of a choice", &[Node::open(3, 2), equal])?;
-    let product = [Node::open(3, 2), Node::open(1, 2), Node::pair(Op::Product, 0, 1)];
+    let product = [
+        Node::open(3, 2),
+        Node::open(1, 2),
+        Node::pair(Op::Product, 0, 1),
+    ];
     list(rt, &table, "of a product", &product)?;
     let same_hall = choice(2, Side::Column(0), Sign::Equal, Side::Column(2));
-    let join = [Node::open(2, 1), Node::open(1, 2), Node::pair(Op::Product, 0, 1), same_hall];
+    let join = [
+        Node::open(2, 1),
+        Node::open(1, 2),
+        Node::pair(Op::Product, 0, 1),
+        same_hall,
+    ];
     list(rt, &table, "of skaters in open halls", &join)?;
     let either = [second(1, 7), second(1, 8), Node::pair(Op::Union, 0, 1)];
     list(rt, &table, "of those in hall 7 or 8", &either)?;

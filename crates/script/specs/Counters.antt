@@ -40,7 +40,7 @@ answer_to (Err e) = Err e
 -- what the book does when it is asked this and lent nothing, and that every lawful life so far goes on with it
 abbrev pub CallSays : Store → List Denial → Store → List Denial → Asked → Result Reply BookRefusal → Type 0
 CallSays s rules s' rules' asked result =
-    (outcome : Result Done BookRefusal) × (result ≡ answer_to outcome) × StepSays s rules s' rules' [] [] asked outcome × LivesOn s rules s' rules' asked (told_of [] outcome)
+    (outcome : Result Done BookRefusal) × (result ≡ answer_to outcome) × StepSays s rules s' rules' [] [] [] [] asked outcome × LivesOn s rules s' rules' asked (told_of [] [] outcome)
 
 -- what a task asks of the book; `conflicts` only wants a number told
 abbrev pub asked_of : Task → Option Asked

@@ -3,8 +3,6 @@
 // Every answer over some of the rows held is a candidate over all of them, so the candidates are gone through, least first, and each
 // is settled as a verdict is: the sure ones are entered into the caller's lines, and nothing is kept of the others. So a sheet
 // costs what so many verdicts cost, and the search for each next candidate. Nothing is allocated.
-//
-// The call is not handed out yet: it comes as a call of the book, together with the law over whole runs for it.
 #![tactic(auto)]
 
 mod gathering;
@@ -14,3 +12,4 @@ mod writing;
 
 pub use laws::readable;
 pub use refusal::Refusal;
+pub use writing::sheet;

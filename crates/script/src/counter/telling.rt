@@ -63,16 +63,18 @@ impl Counter {
     // What comes of one call of the book.
     fn call(&mut self, call: Call<'_>) -> Result<Reply, book::Refusal>
         ensures same { self.new.lines ≡ self.old.lines }
-        ensures says { CallSays (store_of self.old) (rules_in self.old) (store_of self.new) (rules_in self.new) (asked_by 0 0 call.entry) result }
+        ensures says { CallSays (store_of self.old) (rules_in self.old) (store_of self.new) (rules_in self.new) (asked_by 0 0 0 call.entry) result }
     {
-        // No command asks for a verdict, so nothing is lent.
-        self.book.step(call, &mut [], &mut []).map(|_| Reply::Taken)
+        // No command asks for a verdict or a sheet, so nothing is lent.
+        self.book
+            .step(call, &mut [], &mut [], &mut [])
+            .map(|_| Reply::Taken)
     }
 }
 
 // The call of the book that a command makes; `conflicts` only asks for a number.
 fn call_of(command: &Command) -> Option<Call<'_>>
-    ensures { option_map (asked_by 0 0) result ≡ asked_of (task_of command.now) }
+    ensures { option_map (asked_by 0 0 0) result ≡ asked_of (task_of command.now) }
 {
     match command {
         Command::Enter(row) => Some(Call::Enter(*row)),

@@ -14,10 +14,13 @@ pub returns-clause-says : goal.returns-clause-says
 returns-clause-says c =
     let before = c.args.self.now in
     let after : Counter = record { book = c.step.new.self; lines = before.lines } in
-    let asked = asked_by 0 0 c.args.call in
-    let none : c.step.new.core ≡ [] = nil_from_length c.step.new.core c.step.auto.core in (
+    let asked = asked_by 0 0 0 c.args.call in
+    let none : c.step.new.core ≡ [] = nil_from_length c.step.new.core c.step.auto.core in
+    let no_lines : c.step.new.lines ≡ [] = nil_from_length c.step.new.lines c.step.auto.lines in (
       c.step.result,
       handed_on c.step.result c.map.result _ (λ d x k. search search_rules) c.map.ensures.cases,
-      subst (λ (core : List Row). StepSays (store_of before) (rules_in before) (store_of after) (rules_in after) [] core asked c.step.result) none c.step.ensures.says,
-      subst (λ (core : List Row). LivesOn (store_of before) (rules_in before) (store_of after) (rules_in after) asked (told_of core c.step.result)) none c.step.ensures.law,
+      subst (λ (core : List Row). StepSays (store_of before) (rules_in before) (store_of after) (rules_in after) [] core [] [] asked c.step.result) none
+          (subst (λ lines. StepSays (store_of before) (rules_in before) (store_of after) (rules_in after) [] c.step.new.core [] lines asked c.step.result) no_lines c.step.ensures.says),
+      subst (λ (core : List Row). LivesOn (store_of before) (rules_in before) (store_of after) (rules_in after) asked (told_of core [] c.step.result)) none
+          (subst (λ lines. LivesOn (store_of before) (rules_in before) (store_of after) (rules_in after) asked (told_of c.step.new.core lines c.step.result)) no_lines c.step.ensures.law),
     )
