@@ -13,13 +13,10 @@ pub(crate) fn full_page(rt: &HostRuntime) -> Result<(), Trouble> {
     let places: [_; 256] = array::from_fn(|number| Some(Load::Pairs.row(number as u32)));
     let mut bytes = [0; 5120];
     let _ = write_page(&places, &mut bytes);
-    let mut passed = 0;
     let start = Instant::now(rt)?;
-    for _ in 0..CHECKS {
-        if check(&bytes, &ARITIES).is_ok() {
-            passed += 1;
-        }
-    }
+    let passed = (0..CHECKS)
+        .filter(|_| check(&bytes, &ARITIES).is_ok())
+        .count();
     let took = start.elapsed(rt)?.as_secs_f64() * 1000000.0 / f64::from(CHECKS);
     println!(rt; "check of a full page: {took:.1} microseconds ({passed} of {CHECKS} passed)")?;
     Ok(())
