@@ -7,10 +7,11 @@ use Rattle.words.specs.Language.{form_of, texts, parts_of}
 use Rattle.words.specs.declared.separators.Separator.TheVariants.{Space}
 use Rattle.commands.specs.Verbs.{verb_of}
 use Rattle.commands.specs.Rows.{row_from}
+use Rattle.commands.specs.Plans.{plan_from, verdict_from}
 use Rattle.commands.specs.Rules.{rule_from}
-use Rattle.commands.specs.Tasks.{Task, enter, strike, rule, conflicts, task_of}
+use Rattle.commands.specs.Tasks.{Task, enter, strike, rule, verdict, sheet, conflicts, task_of}
 use Rattle.commands.specs.declared.verb.Verb.{Verb}
-use Rattle.commands.specs.declared.verb.Verb.TheVariants.{Enter, Strike, Rule, Conflicts}
+use Rattle.commands.specs.declared.verb.Verb.TheVariants.{Enter, Strike, Rule, Verdict, Sheet, Conflicts}
 use Rattle.commands.specs.declared.command.Command.{Command}
 use Rattle.commands.specs.declared.refusal.Refusal.{Refusal}
 use Rattle.commands.specs.declared.refusal.Refusal.TheVariants.{TooLong, UnknownCommand, UnknownWord, Misplaced}
@@ -38,6 +39,8 @@ abbrev pub task_from : Verb → List (List ℕ) → Option Task
 task_from Enter ws = option_map enter (row_from ws)
 task_from Strike ws = option_map strike (row_from ws)
 task_from Rule ws = option_map rule (rule_from ws)
+task_from Verdict ws = option_map verdict (verdict_from ws)
+task_from Sheet ws = option_map sheet (plan_from ws)
 task_from Conflicts ws = alone conflicts ws
 
 -- what a line commands

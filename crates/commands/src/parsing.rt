@@ -73,6 +73,8 @@ fn command_of(verb: Verb, mut words: Parts<'_>) -> Option<Command>
         Verb::Enter => row_from(words).map(Command::Enter),
         Verb::Strike => row_from(words).map(Command::Strike),
         Verb::Rule => rule_from(words).map(Command::Rule),
+        Verb::Verdict => verdict_from(words).map(Command::Verdict),
+        Verb::Sheet => plan_from(words).map(Command::Sheet),
         // It stands alone on its line.
         Verb::Conflicts => words.next().is_none().then_some(Command::Conflicts),
     }

@@ -7,6 +7,8 @@ pub enum Verb {
     Enter,
     Strike,
     Rule,
+    Verdict,
+    Sheet,
     Conflicts,
 }
 
@@ -20,6 +22,8 @@ impl Verb {
             b"enter" => Some(Verb::Enter),
             b"strike" => Some(Verb::Strike),
             b"rule" => Some(Verb::Rule),
+            b"verdict" => Some(Verb::Verdict),
+            b"sheet" => Some(Verb::Sheet),
             b"conflicts" => Some(Verb::Conflicts),
             _ => None,
         }

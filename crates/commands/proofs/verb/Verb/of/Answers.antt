@@ -10,6 +10,13 @@ returns-in-strike c =
     let is : word ≡ codes "strike" = cc in
     rw is refl
 
+pub returns-in-verdict : goal.returns-in-verdict
+returns-in-verdict c =
+    let word = c.args.word.now in
+    let whole = fill_by_all (λ k. get_or word k 0) word 7 0 (omega arith) (λ k h. refl) in
+    let is : word ≡ codes "verdict" = cc in
+    rw is refl
+
 pub returns-in-conflicts : goal.returns-in-conflicts
 returns-in-conflicts c =
     let word = c.args.word.now in
