@@ -8,6 +8,7 @@ use fault::Notice;
 #[derive(Clone, Copy)]
 pub enum Fault {
     Script(commands::Refusal),
+    Plan(plan::Refusal),
     Book(book::Refusal),
 }
 
@@ -18,6 +19,7 @@ impl From<Fault> for Notice {
     fn from(fault: Fault) -> Notice {
         match fault {
             Fault::Script(refusal) => Notice::from(refusal),
+            Fault::Plan(refusal) => Notice::from(refusal),
             Fault::Book(refusal) => Notice::from(refusal),
         }
     }
@@ -28,6 +30,14 @@ impl From<commands::Refusal> for Fault {
 
     fn from(refusal: commands::Refusal) -> Fault {
         Fault::Script(refusal)
+    }
+}
+
+impl From<plan::Refusal> for Fault {
+    ghost from_gives = { λ refusal r. r ≡ Fault.Plan refusal };
+
+    fn from(refusal: plan::Refusal) -> Fault {
+        Fault::Plan(refusal)
     }
 }
 

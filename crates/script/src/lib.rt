@@ -3,6 +3,7 @@
 
 mod counter;
 mod faults;
+mod listing;
 mod pending;
 mod printing;
 mod reply;
@@ -11,5 +12,6 @@ mod session;
 pub use counter::Counter;
 pub use faults::Fault;
 pub use pending::Pending;
+pub use printing::Words;
 pub use reply::{Reply, Said};
 pub use session::{Session, first_bytes_decide};

@@ -5,6 +5,7 @@ ghost use Rattle.script.specs.Sessions.{HearSays, EndSays, ByFirstBytes};
 
 use crate::counter::Counter;
 use crate::pending::Pending;
+use crate::printing::Words;
 use crate::reply::Said;
 
 #[derive(Drop)]
@@ -38,6 +39,17 @@ impl Session {
         let said = self.counter.tell(self.pending.text());
         self.pending.clear();
         Some(said)
+    }
+
+    // What is said, in words; a sheet's lines are those that the counter told last.
+    pub fn words(&self, said: Said) -> Words<'_>
+        ensures said { result.said ≡ said }
+        ensures sheet { result.sheet.now ≡ self.now.counter.sheet }
+    {
+        Words {
+            said,
+            sheet: self.counter.sheet(),
+        }
     }
 
     // The input has ended; if bytes came after the last newline, they are a line too.
