@@ -3,12 +3,14 @@ ghost use Rattle.std.specs.Prelude.{◌≡◌, length, map, None, Ok};
 ghost use Rattle.book.specs.Calls.{StayZero};
 ghost use Rattle.book.specs.Outcomes.{asked_by};
 ghost use Rattle.page.specs.Checks.{check_refusal};
+ghost use Rattle.page.specs.Pages.{page_of};
+ghost use Rattle.page.specs.Sources.{page_model};
 ghost use Rattle.page_examples.specs.Keeping.{KeepSays};
 
 use book::{Call, Recorder, session};
 use page::{Page, check};
 use plan::Line;
-use store::Row;
+use store::{Row, Source};
 
 // Opens a book over the page that the bytes are, does the calls in their order, and lets the book go. The bytes are then
 // the page of the rows that it held in the end; bytes that are no page stay as they were, and no call is done.
@@ -40,9 +42,9 @@ fn run_over<'a, R: Recorder>(
     lines: &mut [Line],
     recorder: &mut R,
 ) -> Page<'a>
-    ensures lent { check_refusal bytes.old arities.now ≡ None → result.bytes.ghost_name ≡ bytes.entry.ghost_name }
+    ensures lent { check_refusal bytes.old arities.now ≡ None → ⟦<Page<'a> as Source>⟧.anchor result ≡ bytes.entry.ghost_name }
     ensures marks { StayZero marks.old marks.new }
-    ensures says { check_refusal bytes.old arities.now ≡ None → KeepSays R.Recorder.told recorder.old recorder.new (map (asked_by (length marks.old) (length core.old) (length lines.old)) calls.now) arities.now bytes.old result.bytes.now (Ok tt) }
+    ensures says { check_refusal bytes.old arities.now ≡ None → KeepSays R.Recorder.told recorder.old recorder.new (map (asked_by (length marks.old) (length core.old) (length lines.old)) calls.now) arities.now bytes.old (page_of (page_model result).places) (Ok tt) }
 {
     let page = Page::open(arities, bytes);
     session(page, calls, marks, core, lines, recorder).source
