@@ -30,6 +30,7 @@ impl<S: Source> Book<S> {
     // Enters a row and tells its place.
     pub fn entry(&mut self, row: &Row) -> Result<usize, Refusal>
         ensures anchor { S.Source.anchor self.new.source ≡ S.Source.anchor self.old.source }
+        ensures arity { (S.Source.model self.new.source).arity ≡ (S.Source.model self.old.source).arity }
         ensures rules { rules_of self.new.log ≡ rules_of self.old.log }
         ensures says { EntrySays (S.Source.model self.old.source) (S.Source.model self.new.source) (rules_of self.old.log) row.now result }
         ensures law { LivesOn (S.Source.model self.old.source) (rules_of self.old.log) (S.Source.model self.new.source) (rules_of self.new.log) (entering row.now) (taken_by result) }
@@ -48,6 +49,7 @@ impl<S: Source> Book<S> {
     // Strikes a row and tells the place that is empty now; the conflicts with the row go.
     pub fn strike(&mut self, row: &Row) -> Result<usize, Refusal>
         ensures anchor { S.Source.anchor self.new.source ≡ S.Source.anchor self.old.source }
+        ensures arity { (S.Source.model self.new.source).arity ≡ (S.Source.model self.old.source).arity }
         ensures rules { rules_of self.new.log ≡ rules_of self.old.log }
         ensures says { StrikingSays (S.Source.model self.old.source) (S.Source.model self.new.source) row.now result }
         ensures law { LivesOn (S.Source.model self.old.source) (rules_of self.old.log) (S.Source.model self.new.source) (rules_of self.new.log) (striking row.now) (taken_by result) }

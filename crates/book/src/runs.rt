@@ -21,6 +21,7 @@ impl<S: Source> Book<S> {
         lines: &mut [Line],
     ) -> Outcome
         ensures anchor { S.Source.anchor self.new.source ≡ S.Source.anchor self.old.source }
+        ensures arity { (S.Source.model self.new.source).arity ≡ (S.Source.model self.old.source).arity }
         ensures says { StepSays (S.Source.model self.old.source) (rules_of self.old.log) (S.Source.model self.new.source) (rules_of self.new.log) core.old core.new lines.old lines.new (asked_by (length marks.old) (length core.old) (length lines.old) call.entry) result }
         ensures marks { marks.new ≡ marks_after (asked_by (length marks.old) (length core.old) (length lines.old) call.entry) marks.old }
         ensures core { drop (rows_used (asked_by (length marks.old) (length core.old) (length lines.old) call.entry)) core.new ≡ drop (rows_used (asked_by (length marks.old) (length core.old) (length lines.old) call.entry)) core.old }
@@ -65,6 +66,7 @@ impl<S: Source> Book<S> {
         recorder: &mut R,
     )
         ensures anchor { S.Source.anchor self.new.source ≡ S.Source.anchor self.old.source }
+        ensures arity { (S.Source.model self.new.source).arity ≡ (S.Source.model self.old.source).arity }
         ensures marks { StayZero marks.old marks.new }
         ensures law { RunSays (R.Recorder.told recorder.old) (R.Recorder.told recorder.new) (map (asked_by (length marks.old) (length core.old) (length lines.old)) calls.now) (S.Source.model self.old.source) (rules_of self.old.log) (S.Source.model self.new.source) (rules_of self.new.log) }
     {
@@ -86,6 +88,7 @@ pub fn session<S: Source, R: Recorder>(
     recorder: &mut R,
 ) -> Book<S>
     ensures anchor { S.Source.anchor result.source ≡ S.Source.anchor source }
+    ensures arity { (S.Source.model result.source).arity ≡ (S.Source.model source).arity }
     ensures marks { StayZero marks.old marks.new }
     ensures law { SessionSays (R.Recorder.told recorder.old) (R.Recorder.told recorder.new) (map (asked_by (length marks.old) (length core.old) (length lines.old)) calls.now) (S.Source.model source) (S.Source.model result.source) (rules_of result.log) }
 {

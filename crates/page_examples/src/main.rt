@@ -1,12 +1,16 @@
-// A page in memory: opened as a source, rows put and struck, and what its bytes came to.
+// A page in memory: opened as a source, rows put and struck, a book kept over it, and what its bytes came to.
 #![tactic(auto)]
 
 mod entering;
+mod keeping;
+mod minutes;
+mod morning;
 mod showing;
 
 use entering::{Hindrance, enter};
+use morning::morning;
 use page::{Page, write_page};
-use rink::row;
+use rink::{ARITIES, party, row};
 use showing::{show_bytes, show_check, show_rows, tell};
 use std::io;
 use store::{Row, Source};
@@ -46,6 +50,21 @@ fn fill(rt: &HostRuntime, arities: &[u8], bytes: &mut [u8]) -> io::Result<()> {
     Ok(())
 }
 
+// Keeps a book over a page of five places, and then over bytes that are no page.
+fn keep_books(rt: &HostRuntime) -> io::Result<()> {
+    let mut bytes = [0; 100];
+    let ice = Some(row(0, 1, 40));
+    let taken = Some(party(1, 40, 7));
+    let _ = write_page(&[ice, None, taken, None, None], &mut bytes);
+    show_bytes(rt, &bytes)?;
+    morning(rt, &mut bytes)?;
+    show_check(rt, &ARITIES, &bytes)?;
+    show_bytes(rt, &bytes)?;
+    show_rows(rt, &ARITIES, &mut bytes)?;
+    bytes[20] = 0;
+    morning(rt, &mut bytes)
+}
+
 fn main(rt: HostRuntime) -> io::Result<()> {
     let arities = [2, 1, 0, 4];
     let mut bytes = [0; 100];
@@ -63,5 +82,6 @@ fn main(rt: HostRuntime) -> io::Result<()> {
     show_check(&rt, &arities, &bytes)?;
     let told = enter(&arities, &mut bytes, &row(0, 5, 5));
     tell(&rt, "enter 0: 5 5", told)?;
-    show_rows(&rt, &arities, &mut bytes)
+    show_rows(&rt, &arities, &mut bytes)?;
+    keep_books(&rt)
 }

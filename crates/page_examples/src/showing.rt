@@ -1,9 +1,11 @@
 // What a person sees: bytes in hex, one record a line, rows, and what was answered.
 use crate::entering::Hindrance;
+use book::{Done, Outcome};
 use fault::Notice;
 use page::{Page, check};
 use std::io;
 use store::Source;
+use verdict::Verdict;
 
 // Prints a record's bytes in hex: its mark, its relation and its four columns.
 fn show_record(rt: &HostRuntime, record: &[u8; 20]) -> io::Result<()> {
@@ -75,5 +77,19 @@ pub(crate) fn tell(
             "{asked}: refusal {}",
             Notice::from(refusal).number
         ),
+    }
+}
+
+// Prints what came of a call of a book.
+pub(crate) fn tell_outcome(rt: &HostRuntime, asked: &str, outcome: &Outcome) -> io::Result<()> {
+    match *outcome {
+        Ok(Done::Taken) => println!(rt; "{asked}: taken"),
+        Ok(Done::Ruled(number)) => println!(rt; "{asked}: rule {number}"),
+        Ok(Done::Judged(Verdict::Sure)) => println!(rt; "{asked}: sure"),
+        Ok(Done::Judged(Verdict::Unsure(rows))) => println!(rt;
+            "{asked}: unsure, a core of {rows}"
+        ),
+        Ok(Done::Listed(lines)) => println!(rt; "{asked}: sure lines {lines}"),
+        Err(refusal) => println!(rt; "{asked}: refusal {}", Notice::from(refusal).number),
     }
 }

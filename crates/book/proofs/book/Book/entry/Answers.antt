@@ -49,6 +49,7 @@ returns-in-Err g c =
     let says : EntrySays s s'' rules row (Err EntryConflicts) = (back, put.says.granted, many_with s s' s'' row _ put.says rules full.says.1) in
     record {
       anchor = struck.anchor ∙ put.anchor;
+      arity = λ i. (back i).arity;
       rules = full.rules;
       says = says;
       law = subst (λ (rs : List Denial). LivesOn s rules s'' rs (entering row) (refused 15)) (sym full.rules) (entry_lives s s'' rules row (Err EntryConflicts) says);

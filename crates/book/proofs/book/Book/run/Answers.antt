@@ -24,15 +24,16 @@ loop-call-preserved g c =
     let lent : asked_by (length c.loop-call.marks) (length c.loop-call.core) (length c.loop-call.lines) item ≡ asks (get_or calls i item) = ap₂ (λ (m n : ℕ). asked_by m n (length c.loop-call.lines) item) (omega arith) (omega arith) ∙ ap (λ (k : ℕ). asked_by (length c.args.marks.now) (length c.args.core.now) k item) (omega arith) ∙ ap asks c.call-item.is in
     let law = subst (λ (a : Asked). LivesOn (model c.loop-call.self.source) (rules_of c.loop-call.self.log) (model c.step-outcome.new.self.source) (rules_of c.step-outcome.new.self.log) a (told_of c.step-outcome.new.core c.step-outcome.new.lines c.step-outcome.result)) lent step.law in (
       step.anchor ∙ so.0,
+      step.arity ∙ so.1,
       subst (λ (askeds : List Asked). RunSays (told c.args.recorder.now) (told c.record.new.self) askeds (model b.source) (rules_of b.log) (model c.step-outcome.new.self.source) (rules_of c.step-outcome.new.self.log)) (sym more)
           (one_more (told c.args.recorder.now) (told c.loop-call.recorder) (told c.record.new.self) (map asks (take i calls))
           (model b.source) (model c.loop-call.self.source) (model c.step-outcome.new.self.source) (rules_of b.log) (rules_of c.loop-call.self.log) (rules_of c.step-outcome.new.self.log)
-          (asks (get_or calls i item)) (told_of c.step-outcome.new.core c.step-outcome.new.lines c.step-outcome.result) so.1 law c.record.ensures),
-      stay_zero (asked_by (length c.loop-call.marks) (length c.loop-call.core) (length c.loop-call.lines) item) c.args.marks.now c.loop-call.marks c.step-outcome.new.marks so.2 step.marks,
+          (asks (get_or calls i item)) (told_of c.step-outcome.new.core c.step-outcome.new.lines c.step-outcome.result) so.2 law c.record.ensures),
+      stay_zero (asked_by (length c.loop-call.marks) (length c.loop-call.core) (length c.loop-call.lines) item) c.args.marks.now c.loop-call.marks c.step-outcome.new.marks so.3 step.marks,
     )
 
 pub returns-clause-law : goal.returns-clause-law
 returns-clause-law g c =
     let b = c.args.self.now in
     let whole = take_all c.loop-call.call-index c.args.calls.now (omega arith) in
-    subst (λ (calls : List Call). RunSays (g.R.Recorder.told c.args.recorder.now) (g.R.Recorder.told c.loop-call.recorder) (map (asked_by (length c.args.marks.now) (length c.args.core.now) (length c.args.lines.now)) calls) (g.S.Source.model b.source) (rules_of b.log) (g.S.Source.model c.loop-call.self.source) (rules_of c.loop-call.self.log)) whole c.loop-call.invariant.1
+    subst (λ (calls : List Call). RunSays (g.R.Recorder.told c.args.recorder.now) (g.R.Recorder.told c.loop-call.recorder) (map (asked_by (length c.args.marks.now) (length c.args.core.now) (length c.args.lines.now)) calls) (g.S.Source.model b.source) (rules_of b.log) (g.S.Source.model c.loop-call.self.source) (rules_of c.loop-call.self.log)) whole c.loop-call.invariant.2

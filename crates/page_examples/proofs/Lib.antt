@@ -1,0 +1,2 @@
+mod Closing
+mod Noted
