@@ -88,8 +88,16 @@ module _ (s : Store) (rules : List Denial) (s' : Store) (rules' : List Denial) (
   abbrev pub DoSays : List ℕ → Result Reply Fault → Type 0
   DoSays line result = Unless (option_map Script (line_refusal line)) (λ r. (task : Task) × (line_command line ≡ Some task) × TaskSays task r) result
 
+-- what comes of a task, from one counter to the next
+abbrev pub Follows : Counter → Counter → Task → Result Reply Fault → Type 0
+Follows before after = TaskSays (store_of before) (rules_in before) (store_of after) (rules_in after) after.sheet
+
+-- and what comes of a line
+abbrev pub Does : Counter → Counter → List ℕ → Result Reply Fault → Type 0
+Does before after = DoSays (store_of before) (rules_in before) (store_of after) (rules_in after) after.sheet
+
 -- the line's number is one more than the lines told before, and its outcome is what comes of it
 pub record TellSays (before after : Counter) (line : List ℕ) (said : Said) : Type 0 where
   pub counted : after.lines ≡ min (before.lines + 1) (2 ^ 64 - 1)
   pub number : said.line ≡ after.lines
-  pub outcome : DoSays (store_of before) (rules_in before) (store_of after) (rules_in after) after.sheet line said.outcome
+  pub outcome : Does before after line said.outcome

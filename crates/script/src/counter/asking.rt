@@ -3,7 +3,7 @@ ghost use Rattle.std.specs.Prelude.{◌≡◌};
 ghost use Rattle.plan.specs.declared.node.Node.{Node};
 ghost use Rattle.commands.specs.Rules.{written};
 ghost use Rattle.commands.specs.Tasks.{enter, strike, rule, verdict, sheet};
-ghost use Rattle.script.specs.Counters.{store_of, rules_in, TaskSays};
+ghost use Rattle.script.specs.Counters.{Follows};
 
 use super::Counter;
 use crate::faults::Fault;
@@ -17,7 +17,7 @@ impl Counter {
     // Enters a row.
     pub(super) fn enter(&mut self, row: &Row) -> Result<Reply, Fault>
         ensures same { self.new.lines ≡ self.old.lines }
-        ensures says { TaskSays (store_of self.old) (rules_in self.old) (store_of self.new) (rules_in self.new) self.new.sheet (enter row.now) result }
+        ensures says { Follows self.old self.new (enter row.now) result }
     {
         self.book.entry(row)?;
         Ok(Reply::Taken)
@@ -26,7 +26,7 @@ impl Counter {
     // Strikes a row.
     pub(super) fn strike(&mut self, row: &Row) -> Result<Reply, Fault>
         ensures same { self.new.lines ≡ self.old.lines }
-        ensures says { TaskSays (store_of self.old) (rules_in self.old) (store_of self.new) (rules_in self.new) self.new.sheet (strike row.now) result }
+        ensures says { Follows self.old self.new (strike row.now) result }
     {
         self.book.strike(row)?;
         Ok(Reply::Taken)
@@ -35,7 +35,7 @@ impl Counter {
     // Takes a rule.
     pub(super) fn rule(&mut self, text: &RuleText) -> Result<Reply, Fault>
         ensures same { self.new.lines ≡ self.old.lines }
-        ensures says { TaskSays (store_of self.old) (rules_in self.old) (store_of self.new) (rules_in self.new) self.new.sheet (rule (written text.now)) result }
+        ensures says { Follows self.old self.new (rule (written text.now)) result }
     {
         self.book.rule(text.atoms(), text.comparisons())?;
         Ok(Reply::Taken)
@@ -44,7 +44,7 @@ impl Counter {
     // Asks whether every reading has a line as an answer of a plan.
     pub(super) fn judge(&mut self, nodes: &[Node], columns: [u32; 8]) -> Result<Reply, Fault>
         ensures same { self.new.lines ≡ self.old.lines }
-        ensures says { TaskSays (store_of self.old) (rules_in self.old) (store_of self.new) (rules_in self.new) self.new.sheet (verdict (nodes.now, columns)) result }
+        ensures says { Follows self.old self.new (verdict (nodes.now, columns)) result }
     {
         let plan = Plan::of(nodes)?;
         let line = Line { columns };
@@ -60,7 +60,7 @@ impl Counter {
     // Asks for all lines of a plan that every reading has.
     pub(super) fn list(&mut self, nodes: &[Node]) -> Result<Reply, Fault>
         ensures same { self.new.lines ≡ self.old.lines }
-        ensures says { TaskSays (store_of self.old) (rules_in self.old) (store_of self.new) (rules_in self.new) self.new.sheet (sheet nodes.now) result }
+        ensures says { Follows self.old self.new (sheet nodes.now) result }
     {
         let plan = Plan::of(nodes)?;
         let count = self.book.sheet(&plan, &mut self.marks, &mut self.sheet)?;

@@ -1,7 +1,7 @@
 // What the counter does with a line, and what it says of it.
 ghost use Rattle.std.specs.Prelude.{◌≡◌, ℕ, [], replicate, None};
 ghost use Rattle.book.specs.Runs.{opened, opening, Life};
-ghost use Rattle.script.specs.Counters.{rink_arity, store_of, rules_in, TaskSays, DoSays, TellSays};
+ghost use Rattle.script.specs.Counters.{rink_arity, store_of, rules_in, Follows, Does, TellSays};
 ghost use Rattle.commands.specs.Tasks.{task_of};
 
 use super::Counter;
@@ -52,7 +52,7 @@ impl Counter {
     // What comes of a line: a refusal of the script or of a plan, or what the book answers.
     fn carry_out(&mut self, line: &[u8]) -> Result<Reply, Fault>
         ensures same { self.new.lines ≡ self.old.lines }
-        ensures says { DoSays (store_of self.old) (rules_in self.old) (store_of self.new) (rules_in self.new) self.new.sheet line.now result }
+        ensures says { Does self.old self.new line.now result }
     {
         let command = parse(line)?;
         self.follow(&command)
@@ -61,7 +61,7 @@ impl Counter {
     // What comes of a command.
     fn follow(&mut self, command: &Command) -> Result<Reply, Fault>
         ensures same { self.new.lines ≡ self.old.lines }
-        ensures says { TaskSays (store_of self.old) (rules_in self.old) (store_of self.new) (rules_in self.new) self.new.sheet (task_of command.now) result }
+        ensures says { Follows self.old self.new (task_of command.now) result }
     {
         match command {
             Command::Enter(row) => self.enter(row),
