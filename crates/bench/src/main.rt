@@ -4,17 +4,34 @@
 // rounds is told, since other work on the machine only adds to it.
 #![tactic(auto)]
 
+use crate::case::Case;
 use crate::ground::Ground;
 use crate::load::Load;
 use crate::trouble::Trouble;
 use std::{env, io};
 
+mod case;
 mod checks;
 mod costs;
 mod ground;
+mod judged;
+mod least;
 mod load;
+mod nodes;
 mod round;
+mod scene;
 mod trouble;
+
+const CASES: [Case; 8] = [
+    Case::Rival,
+    Case::AnyRival,
+    Case::Held,
+    Case::SixLeaves,
+    Case::Joined,
+    Case::Two,
+    Case::Pairs,
+    Case::Three,
+];
 
 fn main(rt: HostRuntime) -> Result<(), Trouble> {
     if !asked_to_run(&rt)? {
@@ -30,7 +47,14 @@ fn main(rt: HostRuntime) -> Result<(), Trouble> {
             ground.measure(&rt, load)?;
         }
     }
-    checks::full_page(&rt)
+    checks::full_page(&rt)?;
+    println!(rt; "microseconds a call, and in brackets what was told")?;
+    for ground in [Ground::Table, Ground::Page] {
+        for case in CASES {
+            ground.judge(&rt, case)?;
+        }
+    }
+    Ok(())
 }
 
 // Whether the first word after the program's name is run.
