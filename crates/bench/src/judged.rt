@@ -6,7 +6,7 @@ use book::Book;
 use plan::Line;
 use std::io;
 use store::{Row, Source};
-use verdict::Verdict;
+use verdict::{MARK_BYTES, Verdict};
 
 #[derive(Clone, Copy)]
 pub(crate) struct Judged {
@@ -26,7 +26,7 @@ impl Judged {
         case.scene().fill(&mut book)?;
         let plan = case.plan()?;
         let line = case.line();
-        let mut marks = [0; 256];
+        let mut marks = [0; MARK_BYTES];
         let mut core = [Row::BLANK; 12];
         let mut lines = [Line { columns: [0; 8] }; 256];
         Ok(Judged {

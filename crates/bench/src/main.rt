@@ -1,7 +1,7 @@
 // What the calls of a book cost, measured by hand: bench run.
 //
-// A book is filled and emptied under one rule, at several numbers of rows, and the least time of many
-// rounds is told, since other work on the machine only adds to it.
+// A book is filled and emptied under one rule, at several numbers of rows, and then verdicts and sheets are asked of books whose
+// rows make many conflicts. The least time of many rounds or calls is told, since other work on the machine only adds to it.
 #![tactic(auto)]
 
 use crate::case::Case;
@@ -37,8 +37,9 @@ fn main(rt: HostRuntime) -> Result<(), Trouble> {
     if !asked_to_run(&rt)? {
         println!(rt; "usage: bench run")?;
         println!(rt;
-            "It prints the nanoseconds of an entry, a strike and a rule of a book over a table and over a page."
+            "It prints the nanoseconds of an entry, a strike and a rule of a book over a table and over a page,"
         )?;
+        println!(rt; "and the microseconds of a page's check, of verdicts and of sheets.")?;
         return Ok(());
     }
     println!(rt; "nanoseconds a call, and in brackets the ratio to the size before")?;
