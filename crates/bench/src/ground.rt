@@ -37,7 +37,7 @@ impl Ground {
     fn rounds(self) -> u32 {
         match self {
             Ground::Table => 200,
-            Ground::Page => 20,
+            Ground::Page => 10,
         }
     }
 
