@@ -2,7 +2,7 @@
 use Rattle.std.specs.Prelude.{ℕ, ◌+◌, ◌*◌, cond, ◌==◌, slice_index}
 use Rattle.store.specs.declared.row.Row.{Row}
 use Rattle.bench.specs.declared.scene.Scene.{Scene}
-use Rattle.bench.specs.declared.scene.Scene.TheVariants.{Rivals, MoreRivals, Crowd, Twos, Three}
+use Rattle.bench.specs.declared.scene.Scene.TheVariants.{Rivals, MoreRivals, Crowd, Twos, Three, Behind}
 
 abbrev pub pad_of : Row → ℕ
 pad_of row = slice_index row.columns 0
@@ -35,3 +35,4 @@ number_of MoreRivals = rival_number
 number_of Crowd = crowd_number
 number_of Twos = backed_number
 number_of Three = backed_number
+number_of Behind = backed_number

@@ -22,6 +22,8 @@ pub(crate) enum Case {
     Pairs,
     // Whether any of six parties stands, of which the first three do not give way all together.
     Three,
+    // The same, but the three come after another.
+    Behind,
 }
 
 impl Case {
@@ -35,6 +37,7 @@ impl Case {
             Case::Two => "any of six, two of which cannot be out",
             Case::Pairs => "three pairs that cannot be out",
             Case::Three => "any of six, three of which cannot be out",
+            Case::Behind => "any of six, three of which cannot be out, behind one",
         }
     }
 
@@ -45,6 +48,7 @@ impl Case {
             Case::Held | Case::SixLeaves | Case::Joined => Scene::Crowd,
             Case::Two | Case::Pairs => Scene::Twos,
             Case::Three => Scene::Three,
+            Case::Behind => Scene::Behind,
         }
     }
 
@@ -55,7 +59,7 @@ impl Case {
             Case::Held => Plan::of(&held_not_void()),
             Case::SixLeaves => Plan::of(&mixed()),
             Case::Joined => Plan::of(&joined()),
-            Case::Two | Case::Three => Plan::of(&six_pads()),
+            Case::Two | Case::Three | Case::Behind => Plan::of(&six_pads()),
             Case::Pairs => Plan::of(&three_pairs()),
         }
         .map_err(|_| Trouble::NoPlan)
@@ -68,7 +72,7 @@ impl Case {
             Case::AnyRival => [1, 1, 0, 0, 0, 0, 0, 0],
             Case::Held | Case::SixLeaves => [2, 0, 0, 0, 0, 0, 0, 0],
             Case::Joined => [2, 0, 2, 0, 4, 0, 0, 0],
-            Case::Two | Case::Pairs | Case::Three => [0; 8],
+            Case::Two | Case::Pairs | Case::Three | Case::Behind => [0; 8],
         };
         Line { columns }
     }

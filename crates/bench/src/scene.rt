@@ -1,5 +1,5 @@
 // What a book is made to hold while its verdicts and sheets are measured: rows, and rules that forbid some of them together.
-ghost use Rattle.std.specs.Prelude.{◌≡◌};
+ghost use Rattle.std.specs.Prelude.{◌≡◌, ◌<◌};
 ghost use Rattle.bench.specs.Scenes.{rival_number, crowd_number, backed_number, number_of};
 
 use book::{Book, Refusal};
@@ -20,6 +20,8 @@ pub(crate) enum Scene {
     Twos,
     // The same rows, but ice at any two pads, and not at all of the pads 0, 1 and 2.
     Three,
+    // The same, but not at all of the pads 1, 2 and 3.
+    Behind,
 }
 
 // Row after row of the clubs that want one pad.
@@ -57,6 +59,16 @@ fn at_pad(atom: u8, pad: u32) -> Comparison {
     with_number(atom, 0, Sign::Equal, pad)
 }
 
+// A party gives way only to ice and a void row, and there is not ice at all three pads from this one on.
+fn three_pads<S: Source>(book: &mut Book<S>, first: u32) -> Result<(), Refusal>
+    requires { first < 4 }
+{
+    book.rule(&[3, 0, 2], &[both(0, Sign::Equal, 1, 0)])?;
+    let pads = [at_pad(0, first), at_pad(1, first + 1), at_pad(2, first + 2)];
+    book.rule(&[0, 0, 0], &pads)?;
+    Ok(())
+}
+
 impl Scene {
     // Row after row; no two numbers have one row.
     fn row(self, number: u32) -> Row
@@ -65,7 +77,7 @@ impl Scene {
         match self {
             Scene::Rivals | Scene::MoreRivals => rival(number),
             Scene::Crowd => crowded(number),
-            Scene::Twos | Scene::Three => backed(number),
+            Scene::Twos | Scene::Three | Scene::Behind => backed(number),
         }
     }
 
@@ -75,7 +87,7 @@ impl Scene {
             Scene::Rivals => 45,
             Scene::MoreRivals => 51,
             Scene::Crowd => places,
-            Scene::Twos | Scene::Three => 64,
+            Scene::Twos | Scene::Three | Scene::Behind => 64,
         }
     }
 
@@ -107,10 +119,8 @@ impl Scene {
                     book.rule(&[0, 0], &[at_pad(0, pad), at_pad(1, pad + 1)])?;
                 }
             }
-            Scene::Three => {
-                book.rule(&[3, 0, 2], &[same_pad])?;
-                book.rule(&[0, 0, 0], &[at_pad(0, 0), at_pad(1, 1), at_pad(2, 2)])?;
-            }
+            Scene::Three => three_pads(book, 0)?,
+            Scene::Behind => three_pads(book, 1)?,
         }
         Ok(())
     }
