@@ -1,5 +1,7 @@
 // Where the rows lie that are measured, and the measurements there.
+use crate::case::Case;
 use crate::costs::Costs;
+use crate::judged::Judged;
 use crate::load::Load;
 use crate::round::round;
 use crate::trouble::Trouble;
@@ -35,7 +37,7 @@ impl Ground {
     fn rounds(self) -> u32 {
         match self {
             Ground::Table => 200,
-            Ground::Page => 20,
+            Ground::Page => 10,
         }
     }
 
@@ -72,6 +74,26 @@ impl Ground {
                 let mut bytes = [0; 5120];
                 let _ = write_page(&[None; 256], &mut bytes);
                 round(rt, Page::open(&ARITIES, &mut bytes), load, rows)
+            }
+        }
+    }
+    // Measures a verdict and a sheet of a case, and prints a line for it.
+    pub(crate) fn judge(self, rt: &HostRuntime, case: Case) -> Result<(), Trouble> {
+        let ground = self.name();
+        let name = case.name();
+        print!(rt; "{ground}, {name}: ")?;
+        self.judged(rt, case)?.print(rt)?;
+        Ok(())
+    }
+
+    // The same over a source that is empty.
+    fn judged(self, rt: &HostRuntime, case: Case) -> Result<Judged, Trouble> {
+        match self {
+            Ground::Table => Judged::of(rt, Table::new(&ARITIES), case),
+            Ground::Page => {
+                let mut bytes = [0; 5120];
+                let _ = write_page(&[None; 256], &mut bytes);
+                Judged::of(rt, Page::open(&ARITIES, &mut bytes), case)
             }
         }
     }

@@ -1,41 +1,89 @@
 // What the calls of a book cost, measured by hand: bench run.
 //
-// A book is filled and emptied under one rule, at several numbers of rows, and the least time of many
-// rounds is told, since other work on the machine only adds to it.
+// A book is filled and emptied under one rule, at several numbers of rows, and then verdicts and sheets are asked of books whose
+// rows make many conflicts. The least time of many rounds or calls is told, since other work on the machine only adds to it.
+// One case takes so long that it is measured apart: bench slow.
 #![tactic(auto)]
 
+use crate::case::Case;
 use crate::ground::Ground;
 use crate::load::Load;
 use crate::trouble::Trouble;
 use std::{env, io};
 
+mod case;
 mod checks;
 mod costs;
 mod ground;
+mod judged;
+mod least;
 mod load;
+mod nodes;
 mod round;
+mod scene;
 mod trouble;
 
+const CASES: [Case; 8] = [
+    Case::Rival,
+    Case::AnyRival,
+    Case::Held,
+    Case::SixLeaves,
+    Case::Joined,
+    Case::Two,
+    Case::Pairs,
+    Case::Three,
+];
+
+// What the program is to do.
+#[derive(Clone, Copy)]
+enum Task {
+    Usage,
+    Run,
+    Slow,
+}
+
 fn main(rt: HostRuntime) -> Result<(), Trouble> {
-    if !asked_to_run(&rt)? {
-        println!(rt; "usage: bench run")?;
-        println!(rt;
-            "It prints the nanoseconds of an entry, a strike and a rule of a book over a table and over a page."
-        )?;
-        return Ok(());
+    match asked(&rt)? {
+        Task::Usage => usage(&rt)?,
+        Task::Run => run(&rt)?,
+        Task::Slow => Ground::Page.judge(&rt, Case::Behind)?,
     }
+    Ok(())
+}
+
+// What the first word after the program's name asks for.
+fn asked(rt: &HostRuntime) -> io::Result<Task> {
+    let mut words = env::args(rt)?;
+    let _ = words.next();
+    Ok(match words.next() {
+        Some(word) if word.as_str() == "run" => Task::Run,
+        Some(word) if word.as_str() == "slow" => Task::Slow,
+        _ => Task::Usage,
+    })
+}
+
+fn usage(rt: &HostRuntime) -> io::Result<()> {
+    println!(rt; "usage: bench run|slow")?;
+    println!(rt;
+        "Run prints the nanoseconds of an entry, a strike and a rule of a book over a table and over a page,"
+    )?;
+    println!(rt; "and the microseconds of a page's check, of verdicts and of sheets.")?;
+    println!(rt; "Slow prints those of a verdict and a sheet that take many seconds.")
+}
+
+fn run(rt: &HostRuntime) -> Result<(), Trouble> {
     println!(rt; "nanoseconds a call, and in brackets the ratio to the size before")?;
     for ground in [Ground::Table, Ground::Page] {
         for load in [Load::Pairs, Load::Threes, Load::LateThrees] {
-            ground.measure(&rt, load)?;
+            ground.measure(rt, load)?;
         }
     }
-    checks::full_page(&rt)
-}
-
-// Whether the first word after the program's name is run.
-fn asked_to_run(rt: &HostRuntime) -> io::Result<bool> {
-    let mut words = env::args(rt)?;
-    let _ = words.next();
-    Ok(words.next().is_some_and(|word| word.as_str() == "run"))
+    checks::full_page(rt)?;
+    println!(rt; "microseconds a call, and in brackets what was told")?;
+    for ground in [Ground::Table, Ground::Page] {
+        for case in CASES {
+            ground.judge(rt, case)?;
+        }
+    }
+    Ok(())
 }

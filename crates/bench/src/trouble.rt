@@ -10,6 +10,8 @@ pub(crate) enum Trouble {
     Outside(io::Error),
     // A row or a rule was refused, so the figures would say nothing.
     Refused(Refusal),
+    // Nodes make no plan, so nothing can be asked.
+    NoPlan,
 }
 
 impl From<io::Error> for Trouble {
