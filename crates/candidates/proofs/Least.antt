@@ -5,6 +5,8 @@ use mathlib.Core.List.{Memᴰ}
 use Rattle.std.specs.Prelude.{MatchOption}
 use Rattle.std.specs.Bool.{then_some}
 use Rattle.std.proofs.lemmas.List.{take_more}
+use Rattle.std.proofs.lemmas.List.Elements.{filter-append}
+use Rattle.plan.proofs.Members.{kept_pick}
 use Rattle.std.proofs.lemmas.Bool.{both_ways}
 use Rattle.store.specs.declared.row.Row.{Row}
 use Rattle.store.proofs.Tests.{from_not}
@@ -57,17 +59,31 @@ module _ (start : Bound (List ℕ)) (w : ℕ) where
       (Memᴰ.append_left qs i, r, (λ t n q. elim (Memᴰ.append_cases ps n) [ inl a ↦ f t a q | inr a ↦ absurd (both_ways (reaches start t) (g t a) q) ]), l, z)
   least_append ps qs (Some x) (Some y) f g = both_some ps qs x y f g (before (take w y) (take w x)) refl
 
-  -- ---- of one line at most, whether the search reaches it
-  single_if : (lines : List (List ℕ)) (a : List ℕ) → Single lines w (Some a) → (b : Bool) → b ≡ reaches start (take w a) → Least lines start w (then_some b a)
-  single_if lines a (is, l, z) true near = subst (λ ts. Least ts start w (Some a)) (sym is)
-      (Memᴰ.head refl, sym near, (λ t m q. elim m [ Memᴰ.head p ↦ subst (λ u. before u (take w a) ≡ false) (sym p) (irreflexive (take w a)) | Memᴰ.tail n ↦ elim n [ ] ]), l, z)
-  single_if lines a (is, l, z) false far = subst (λ ts. Least ts start w None) (sym is)
-      (λ t m. elim m [ Memᴰ.head p ↦ subst (λ u. reaches start u ≡ false) (sym p) (sym far) | Memᴰ.tail n ↦ elim n [ ] ])
+  -- by the members alone
+  pub least_same : (ps qs : List (List ℕ)) → ((t : List ℕ) → Memᴰ t ps → Memᴰ t qs) → ((t : List ℕ) → Memᴰ t qs → Memᴰ t ps) → (o : Option (List ℕ)) → Least ps start w o → Least qs start w o
+  least_same ps qs into back None f = λ t m. f t (back t m)
+  least_same ps qs into back (Some x) (i, r, f, l, z) = (into (take w x) i, r, (λ t m q. f t (back t m) q), l, z)
 
-  pub single_least : (P : List ℕ → Bool → Type 0) (lines : List (List ℕ)) (r o : Option (List ℕ)) → Single lines w r → ((a : List ℕ) (b : Bool) → P a b → b ≡ reaches start (take w a)) →
-      MatchOption r (o ≡ None) (λ a. (b : Bool) × P a b × (o ≡ then_some b a)) → Least lines start w o
-  single_least P lines None o e says f = rw f (subst (λ ts. Least ts start w None) (sym e) least_none)
-  single_least P lines (Some a) o one says (b, p, f) = rw f (single_if lines a one b (says a b p))
+  -- ---- of one line at most, whether it passes and the search reaches it
+  module _ (p : List ℕ → Bool) where
+    single_if : (lines : List (List ℕ)) (a : List ℕ) → Single lines w (Some a) → (c : Bool) → c ≡ p (take w a) → (b : Bool) → b ≡ reaches start (take w a) → Least (filter p lines) start w (then_some (b && c) a)
+    single_if lines a (is, l, z) true good true near = subst (λ ts. Least ts start w (Some a)) (sym (kept is (sym good)))
+        (Memᴰ.head refl, sym near, (λ t m q. elim m [ Memᴰ.head e ↦ subst (λ u. before u (take w a) ≡ false) (sym e) (irreflexive (take w a)) | Memᴰ.tail n ↦ elim n [ ] ]), l, z)
+      where
+        kept : lines ≡ take w a ∷ [] → p (take w a) ≡ true → filter p lines ≡ take w a ∷ []
+        kept is good = ap (filter p) is ∙ ap (λ b. cond b (take w a ∷ []) []) good
+    single_if lines a (is, l, z) true good false far = subst (λ ts. Least (filter p ts) start w None) (sym is)
+        (λ t m. elim ((kept_pick p (take w a ∷ []) m).0) [ Memᴰ.head e ↦ subst (λ u. reaches start u ≡ false) (sym e) (sym far) | Memᴰ.tail n ↦ elim n [ ] ])
+    single_if lines a (is, l, z) false bad b near = subst (λ ts. Least ts start w (then_some (b && false) a)) (sym (ap (filter p) is ∙ ap (λ b. cond b (take w a ∷ []) []) (sym bad))) (none b)
+      where
+        none : (b : Bool) → Least [] start w (then_some (b && false) a)
+        none true = least_none
+        none false = least_none
+
+    pub single_least : (P : List ℕ → Bool → Type 0) (lines : List (List ℕ)) (r o : Option (List ℕ)) → Single lines w r → ((a : List ℕ) (b : Bool) → P a b → b ≡ (reaches start (take w a) && p (take w a))) →
+        MatchOption r (o ≡ None) (λ a. (b : Bool) × P a b × (o ≡ then_some b a)) → Least (filter p lines) start w o
+    single_least P lines None o e says f = rw f (subst (λ ts. Least (filter p ts) start w None) (sym e) least_none)
+    single_least P lines (Some a) o one says (b, q, f) = rw f (rw (says a b q) (single_if lines a one (p (take w a)) refl (reaches start (take w a)) refl))
 
 -- a leaf's lines over more rows, and the rows at more places
 leaf_append : (relation : ℕ) (fields : List Field) (xs ys : List Row) → leaf_lines relation fields (xs ++ ys) ≡ leaf_lines relation fields xs ++ leaf_lines relation fields ys
@@ -87,10 +103,13 @@ module _ (places : List (Option Row)) (i : ℕ) (within : i < length places) whe
   pub place_empty : get_or places i None ≡ None → rows_of (take (i + 1) places) ≡ rows_of (take i places)
   place_empty e = more ∙ ap (λ o. rows_of (take i places) ++ rows_of (o ∷ [])) e ∙ append-nil (rows_of (take i places))
 
-  pub place_more : (start : Bound (List ℕ)) (w relation : ℕ) (fields : List Field) (row : Row) → get_or places i None ≡ Some row → (a b : Option (List ℕ)) →
-      Least (leaf_lines relation fields (rows_of (take i places))) start w a → Least (leaf_lines relation fields (row ∷ [])) start w b →
-      Least (leaf_lines relation fields (rows_of (take (i + 1) places))) start w (lesser w a b)
-  place_more start w relation fields row e a b f g =
+  pub place_more : (start : Bound (List ℕ)) (w : ℕ) (p : List ℕ → Bool) (relation : ℕ) (fields : List Field) (row : Row) → get_or places i None ≡ Some row → (a b : Option (List ℕ)) →
+      Least (filter p (leaf_lines relation fields (rows_of (take i places)))) start w a → Least (filter p (leaf_lines relation fields (row ∷ []))) start w b →
+      Least (filter p (leaf_lines relation fields (rows_of (take (i + 1) places)))) start w (lesser w a b)
+  place_more start w p relation fields row e a b f g =
       let rows = rows_of (take i places) in
-      subst (λ cs. Least cs start w (lesser w a b)) (sym (ap (leaf_lines relation fields) (more ∙ ap (λ o. rows ++ rows_of (o ∷ [])) e) ∙ leaf_append relation fields rows (row ∷ [])))
-      (least_append start w (leaf_lines relation fields rows) (leaf_lines relation fields (row ∷ [])) a b f g)
+      let lines = leaf_lines relation fields rows in
+      let here = leaf_lines relation fields (row ∷ []) in
+      subst (λ cs. Least cs start w (lesser w a b))
+      (sym (ap (λ rs. filter p (leaf_lines relation fields rs)) (more ∙ ap (λ o. rows ++ rows_of (o ∷ [])) e) ∙ ap (filter p) (leaf_append relation fields rows (row ∷ [])) ∙ filter-append p lines here))
+      (least_append start w (filter p lines) (filter p here) a b f g)

@@ -1,6 +1,7 @@
 pub mod OneLine
 pub mod Before
 pub mod Least
+pub mod Meeting
 pub mod Going
 pub mod Products
 pub mod Candidates

@@ -1,5 +1,5 @@
 -- From the least line of a width to the least candidate of eight columns.
-use Rattle.std.proofs.Common.{◌≡◌, ℕ, ◌+◌, ◌-◌, ◌≤◌, Bool, true, false, List, ◌++◌, map, length, take, drop, replicate, Some, None, Option, ◌<◌, get_or, refl, sym, ap, ◌∙◌, subst, inl, inr, arith, length-append, length-drop, take-append-drop, length-take-le, get_or-drop}
+use Rattle.std.proofs.Common.{◌≡◌, ℕ, ◌+◌, ◌-◌, ◌≤◌, Bool, true, false, List, [], ◌++◌, map, length, take, drop, replicate, Some, None, Option, ◌<◌, get_or, refl, sym, ap, ◌∙◌, subst, inl, inr, arith, length-append, length-drop, take-append-drop, length-take-le, get_or-drop}
 use mathlib.Core.List.Memᴰ
 use mathlib.Core.List.{Memᴰ}
 use Rattle.std.proofs.lemmas.List.{get_or-replicate, length-replicate, ext_get_or, take_at}
@@ -18,6 +18,9 @@ use Rattle.candidates.specs.Candidates.{before, candidates_at, is_candidate, is_
 use Rattle.std.specs.declared.ops.Bound.{Bound}
 use Rattle.plan.proofs.Having.{Long, has_padded}
 use Rattle.candidates.proofs.Candidates.{long_candidates}
+use Rattle.candidates.proofs.Searching.{unwanted}
+use Rattle.candidates.specs.declared.wanted.Wanted.{Wanted}
+use Rattle.ordered.specs.Lists.{items_in}
 use Rattle.plan.proofs.Members.{line_in, line_has}
 use Rattle.candidates.proofs.Before.{front_less, front_cases, none_before_zeros}
 
@@ -68,7 +71,8 @@ after_past : (w : ℕ) → w ≤ 8 → (after : Option Line) → IfSome after (�
 after_past w small None eight t long = refl
 after_past w small (Some line) eight t long = before_padded w line.columns t small eight long
 
-module _ (plan : Plan) (rows : List Row) (after : Option Line) (eight : IfSome after (λ line. length line.columns ≡ 8)) (k : ℕ) (last : k ≡ length (nodes_of plan) - 1) where
+module _ (plan : Plan) (rows : List Row) (after : Option Line) (eight : IfSome after (λ line. length line.columns ≡ 8)) (k : ℕ) (last : k ≡ length (nodes_of plan) - 1)
+    (wanted : Wanted) (nothing : items_in wanted.comparisons ≡ []) where
   within : k < length (nodes_of plan)
   within = omega (arith, plan.some)
 
@@ -85,11 +89,14 @@ module _ (plan : Plan) (rows : List Row) (after : Option Line) (eight : IfSome a
   at_last : (columns : List ℕ) → is_candidate (nodes_of plan) rows columns ≡ has (map padded (candidates_at rows (nodes_of plan) k)) columns
   at_last columns = ap (λ n. has (map padded (candidates_at rows (nodes_of plan) n)) columns) (sym last)
 
-  pub says_none : Finds rows plan k (past after) None → NextSays (nodes_of plan) rows after None
-  says_none f columns h = found_none (candidates_at rows (nodes_of plan) k) Wide small (long_candidates plan rows k within) (bound_map (take Wide) (past after)) (is_after after) (after_past Wide small after eight) f columns (sym (at_last columns) ∙ h)
+  found : (o : Option (List ℕ)) → Finds rows plan k wanted (past after) o → Least (candidates_at rows (nodes_of plan) k) (bound_map (take Wide) (past after)) Wide o
+  found = unwanted plan rows k wanted nothing (past after)
 
-  pub says_some : (columns : List ℕ) → Finds rows plan k (past after) (Some columns) → Next (nodes_of plan) rows after columns
+  pub says_none : Finds rows plan k wanted (past after) None → NextSays (nodes_of plan) rows after None
+  says_none f columns h = found_none (candidates_at rows (nodes_of plan) k) Wide small (long_candidates plan rows k within) (bound_map (take Wide) (past after)) (is_after after) (after_past Wide small after eight) (found None f) columns (sym (at_last columns) ∙ h)
+
+  pub says_some : (columns : List ℕ) → Finds rows plan k wanted (past after) (Some columns) → Next (nodes_of plan) rows after columns
   says_some columns f =
-      let (is, past, least) = found_some (candidates_at rows (nodes_of plan) k) Wide small (long_candidates plan rows k within) (bound_map (take Wide) (past after)) (is_after after) (after_past Wide small after eight) columns f in
+      let (is, past, least) = found_some (candidates_at rows (nodes_of plan) k) Wide small (long_candidates plan rows k within) (bound_map (take Wide) (past after)) (is_after after) (after_past Wide small after eight) columns (found (Some columns) f) in
       let fits = (and_parts (line_fits Wide columns) _ (sym (has_padded (candidates_at rows (nodes_of plan) k) Wide columns small (long_candidates plan rows k within)) ∙ is)).0 in
       record { candidate = at_last columns ∙ is; past = past; least = λ other h a. least other (sym (at_last other) ∙ h) a; fits = subst (λ w. line_fits w columns ≡ true) is_width fits }

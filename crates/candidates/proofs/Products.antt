@@ -1,5 +1,5 @@
--- The least line of a product, from the least lines of its sides.
-use Rattle.std.proofs.Common.{◌≡◌, ℕ, ◌+◌, Bool, true, false, ◌⊎◌, List, ◌++◌, length, take, Some, None, sym, refl, ◌∙◌, subst, inl, inr}
+-- The least line of a product that passes, by a loop over its left lines.
+use Rattle.std.proofs.Common.{◌≡◌, ℕ, ◌+◌, Bool, true, false, ◌⊎◌, List, ◌++◌, length, take, Some, None, filter, Option, sym, refl, ◌∙◌, subst, inl, inr}
 use mathlib.Core.List.{Memᴰ}
 use Rattle.std.proofs.lemmas.Bool.{both_ways, not-true, not_from_false, cases_Bool}
 use Rattle.store.proofs.Tests.{from_not}
@@ -10,8 +10,9 @@ use Rattle.plan.specs.declared.node.Op.TheVariants.{Product}
 use Rattle.std.specs.Range.Bound.{bound_map}
 use Rattle.std.specs.declared.ops.Bound.{Bound}
 use Rattle.std.specs.declared.ops.Bound.TheVariants.{Included, Excluded, Unbounded}
-use Rattle.plan.proofs.Members.{pairs_put, pairs_pick}
-use Rattle.candidates.proofs.Before.{irreflexive, transitive, asymmetric, same_if, compared, front_less, front_same, front_cases}
+use Rattle.plan.proofs.Members.{kept_put, kept_pick, pairs_put, pairs_pick}
+use Rattle.candidates.proofs.Going.{Going, going_start, going_on}
+use Rattle.candidates.proofs.Before.{irreflexive, asymmetric, same_if, front_less, front_same, front_cases}
 
 -- the same start, from or past this line
 abbrev pub with_line : Bound (List ℕ) → List ℕ → Bound (List ℕ)
@@ -50,76 +51,85 @@ module _ (A B : List ℕ) where
       let s : A ≡ x = same_if A x e (not-true (before x A) h) in
       subst (λ z. before (A ++ B) (z ++ y) ≡ true) s (front_same A B y k)
 
-  reach_next : (start : Bound (List ℕ)) (x z y : List ℕ) → length A ≡ length z → reaches (with_line (on_left start) A) x ≡ true → before x z ≡ true → reaches (with_line start (A ++ B)) (z ++ y) ≡ true
-  reach_next Unbounded x z y l h k = refl
-  reach_next (Included s) x z y l h k = not_from_false (before (z ++ y) (A ++ B)) (asymmetric (A ++ B) (z ++ y) (front_less A z B y l (further x z (not-true (before x A) h) k)))
-    where
-      further : (x z : List ℕ) → before x A ≡ false → before x z ≡ true → before A z ≡ true
-      further x z h k = elim (at_or_past x h) [ inl a ↦ transitive A x z a k | inr a ↦ subst (λ u. before u z ≡ true) (sym a.1) k ]
-  reach_next (Excluded s) x z y l h k = front_less A z B y l (further x z (not-true (before x A) h) k)
-    where
-      further : (x z : List ℕ) → before x A ≡ false → before x z ≡ true → before A z ≡ true
-      further x z h k = elim (at_or_past x h) [ inl a ↦ transitive A x z a k | inr a ↦ subst (λ u. before u z ≡ true) (sym a.1) k ]
+-- a left line behind which a line goes on that passes and is reached
+abbrev Good : List (List ℕ) → (List ℕ → Bool) → Bound (List ℕ) → List ℕ → Type 0
+Good qs P at u = (v : List ℕ) × Memᴰ v qs × (P (u ++ v) ≡ true) × (reaches at (u ++ v) ≡ true)
 
-module _ (ps qs : List (List ℕ)) (wl wr : ℕ) (long : (u : List ℕ) → Memᴰ u ps → length u ≡ wl) (A B : List ℕ) (al : length A ≡ wl) (start : Bound (List ℕ)) where
+-- a loop over the left lines that pass F, which passes by none that is good
+abbrev pub Pairing : List (List ℕ) → List (List ℕ) → ℕ → List ℕ → List ℕ → Bound (List ℕ) → (List ℕ → Bool) → (List ℕ → Bool) → Option (List ℕ) → Type 0
+Pairing ps qs wl A B start P F = Going (filter F ps) (Good qs P (with_line start (A ++ B))) (with_line (on_left start) A) wl
+
+-- the lines that pass of a product are sought by the left lines, least first, and for each by the right lines behind it
+module _ (ps qs : List (List ℕ)) (wl wr : ℕ) (long : (u : List ℕ) → Memᴰ u ps → length u ≡ wl) (A B : List ℕ) (al : length A ≡ wl) (start : Bound (List ℕ))
+    (P F : List ℕ → Bool) (front : (u v : List ℕ) → P (u ++ v) ≡ true → F u ≡ true) where
+  abbrev Lines : List (List ℕ)
+  Lines = filter P (lines_by Product ps qs)
+
+  abbrev Lefts : List (List ℕ)
+  Lefts = filter F ps
+
+  long_left : (u : List ℕ) → Memᴰ u Lefts → length u ≡ wl
+  long_left u i = long u (kept_pick F ps i).0
+
   -- a statement of each reached line, by its parts
-  by_parts : (P : List ℕ → Type 0) → ((u v : List ℕ) → Memᴰ u ps → Memᴰ v qs → length A ≡ length u → reaches (with_line start (A ++ B)) (u ++ v) ≡ true → P (u ++ v)) →
-      (t : List ℕ) → Memᴰ t (lines_by Product ps qs) → reaches (with_line start (A ++ B)) t ≡ true → P t
-  by_parts P f t m q = let (u, v, i, j, e) = pairs_pick ps qs t m in subst P e (f u v i j (al ∙ sym (long u i)) (subst (λ z. reaches (with_line start (A ++ B)) z ≡ true) (sym e) q))
+  by_parts : (Q : List ℕ → Type 0) → ((u v : List ℕ) → Memᴰ u Lefts → Memᴰ v qs → P (u ++ v) ≡ true → length A ≡ length u → reaches (with_line start (A ++ B)) (u ++ v) ≡ true → Q (u ++ v)) →
+      (t : List ℕ) → Memᴰ t Lines → reaches (with_line start (A ++ B)) t ≡ true → Q t
+  by_parts Q f t m q =
+      let (n, good) = kept_pick P (lines_by Product ps qs) m in
+      let (u, v, i, j, e) = pairs_pick ps qs t n in
+      let passes : P (u ++ v) ≡ true = subst (λ z. P z ≡ true) (sym e) good in
+      subst Q e (f u v (kept_put F i (front u v passes)) j passes (al ∙ sym (long u i)) (subst (λ z. reaches (with_line start (A ++ B)) z ≡ true) (sym e) q))
 
-  none_by_parts : ((u v : List ℕ) → Memᴰ u ps → Memᴰ v qs → length A ≡ length u → reaches (with_line start (A ++ B)) (u ++ v) ≡ true → ⊥) → Least (lines_by Product ps qs) (with_line start (A ++ B)) (wl + wr) None
+  none_by_parts : ((u v : List ℕ) → Memᴰ u Lefts → Memᴰ v qs → P (u ++ v) ≡ true → length A ≡ length u → reaches (with_line start (A ++ B)) (u ++ v) ≡ true → ⊥) → Least Lines (with_line start (A ++ B)) (wl + wr) None
   none_by_parts f t m = from_not (reaches (with_line start (A ++ B)) t) (by_parts (λ _. ⊥) f t m)
 
-  pub product_none : Least ps (with_line (on_left start) A) wl None → Least (lines_by Product ps qs) (with_line start (A ++ B)) (wl + wr) None
-  product_none f = none_by_parts (λ u v i j l q. both_ways (reaches (with_line (on_left start) A) u) (f u i) (on_left_lem A B start u v l q))
+  abbrev Goes : Option (List ℕ) → Type 0
+  Goes = Pairing ps qs wl A B start P F
 
-  pub product_empty : Least qs Unbounded wr None → Least (lines_by Product ps qs) (with_line start (A ++ B)) (wl + wr) None
-  product_empty f = none_by_parts (λ u v i j l q. both_ways true (f v j) refl)
+  abbrev Shows : List ℕ → Type 0
+  Shows = Good qs P (with_line start (A ++ B))
+
+  pub pairing_start : (o : Option (List ℕ)) → Least Lefts (with_line (on_left start) A) wl o → Goes o
+  pairing_start = going_start Lefts Shows (with_line (on_left start) A) wl
+
+  pub pairing_end : Goes None → Least Lines (with_line start (A ++ B)) (wl + wr) None
+  pairing_end f = none_by_parts (λ u v i j good l q. both_ways (reaches (with_line (on_left start) A) u) (f u i (v, j, good, q)) (on_left_lem A B start u v l q))
+
+  -- no right line passes for itself
+  pub none_alone : (O : List ℕ → Bool) → ((u v : List ℕ) → length u ≡ wl → P (u ++ v) ≡ true → O v ≡ true) → Least (filter O qs) Unbounded wr None → Least Lines (with_line start (A ++ B)) (wl + wr) None
+  none_alone O f none = none_by_parts (λ u v i j good l q. both_ways true (none v (kept_put O j (f u v (long_left u i) good))) refl)
 
   not_less : (u v x y : List ℕ) → length u ≡ length x → before u x ≡ false → (u ≡ x → before v y ≡ false) → before (u ++ v) (x ++ y) ≡ false
   not_less u v x y l a b = from_not (before (u ++ v) (x ++ y)) (λ k. elim (front_cases u x v y l k) [ inl o ↦ both_ways (before u x) a o | inr o ↦ both_ways (before v y) (b o.0) o.1 ])
 
-  module _ (x : List ℕ) (left : Least ps (with_line (on_left start) A) wl (Some x)) where
-    pub product_here : (y z : List ℕ) → Least qs (with_line (on_right start (before A (take wl x))) B) wr (Some y) → take (wl + wr) z ≡ take wl x ++ take wr y → length z ≡ 8 → Padded (wl + wr) z → Least (lines_by Product ps qs) (with_line start (A ++ B)) (wl + wr) (Some z)
-    product_here y z right e l p =
-        let X : List ℕ = take wl x in
+  module _ (x : List ℕ) (here : Goes (Some x)) (R : List ℕ → Bool) (behind : (v : List ℕ) → P (take wl x ++ v) ≡ R v) where
+    abbrev X : List ℕ
+    X = take wl x
+
+    abbrev Next : Bound (List ℕ)
+    Next = with_line (on_right start (before A X)) B
+
+    as_long : length A ≡ length X
+    as_long = al ∙ sym (long_left X here.0)
+
+    -- a reached line with this left part has its right part among those that are sought
+    on_right_lem : (v : List ℕ) → reaches (with_line start (A ++ B)) (X ++ v) ≡ true → reaches Next v ≡ true
+    on_right_lem v q = reach_right A B start X v as_long q (before A X) refl
+
+    pub pairing_on : Least (filter R qs) Next wr None → (o : Option (List ℕ)) → Least Lefts (Excluded X) wl o → Goes o
+    pairing_on none = going_on Lefts Shows (with_line (on_left start) A) wl x here
+        (λ (v, j, good, q). both_ways (reaches Next v) (none v (kept_put R j (sym (behind v) ∙ good))) (on_right_lem v q))
+
+    pub pairing_found : (y z : List ℕ) → Least (filter R qs) Next wr (Some y) → take (wl + wr) z ≡ X ++ take wr y → length z ≡ 8 → Padded (wl + wr) z → Least Lines (with_line start (A ++ B)) (wl + wr) (Some z)
+    pairing_found y z right e l p =
         let Y : List ℕ = take wr y in
-        let lx : length A ≡ length X = al ∙ sym (long X left.0) in
-        let least : (t : List ℕ) → Memᴰ t (lines_by Product ps qs) → reaches (with_line start (A ++ B)) t ≡ true → before t (X ++ Y) ≡ false = by_parts (λ t. before t (X ++ Y) ≡ false)
-        (λ u v i j lu q. not_less u v X Y (sym lu ∙ lx) (left.2 u i (on_left_lem A B start u v lu q))
-        (λ s. right.2 v j (reach_right A B start X v lx (subst (λ c. reaches (with_line start (A ++ B)) (c ++ v) ≡ true) s q) (before A X) refl))) in (
-          subst (λ t. Memᴰ t (lines_by Product ps qs)) (sym e) (pairs_put left.0 right.0),
-          subst (λ t. reaches (with_line start (A ++ B)) t ≡ true) (sym e) (reach_both A B start X Y lx left.1 (before A X) refl right.1),
+        let (j, good) = kept_pick R qs right.0 in
+        let least : (t : List ℕ) → Memᴰ t Lines → reaches (with_line start (A ++ B)) t ≡ true → before t (X ++ Y) ≡ false = by_parts (λ t. before t (X ++ Y) ≡ false)
+        (λ u v i k passes lu q. not_less u v X Y (sym lu ∙ as_long) (here.2 u i (v, k, passes, q) (on_left_lem A B start u v lu q))
+        (λ s. right.2 v (kept_put R k (sym (behind v) ∙ subst (λ c. P (c ++ v) ≡ true) s passes)) (on_right_lem v (subst (λ c. reaches (with_line start (A ++ B)) (c ++ v) ≡ true) s q)))) in (
+          subst (λ t. Memᴰ t Lines) (sym e) (kept_put P (pairs_put (kept_pick F ps here.0).0 j) (behind Y ∙ good)),
+          subst (λ t. reaches (with_line start (A ++ B)) t ≡ true) (sym e) (reach_both A B start X Y as_long here.1 (before A X) refl right.1),
           (λ t m q. subst (λ c. before t c ≡ false) (sym e) (least t m q)),
           l,
           p,
         )
-
-    module _ (right : Least qs (with_line (on_right start (before A (take wl x))) B) wr None) where
-      -- a reached line has a left part past x
-      left_past : (u v : List ℕ) → Memᴰ u ps → Memᴰ v qs → length A ≡ length u → reaches (with_line start (A ++ B)) (u ++ v) ≡ true → before (take wl x) u ≡ true
-      left_past u v i j l q = elim (compared (take wl x) u) [
-        | inl o ↦ o
-        | inr o ↦ absurd (elim o [
-          | inl e ↦ both_ways (reaches (with_line (on_right start (before A (take wl x))) B) v) (right v j)
-              (reach_right A B start (take wl x) v (al ∙ sym (long (take wl x) left.0)) (subst (λ c. reaches (with_line start (A ++ B)) (c ++ v) ≡ true) (sym e) q) (before A (take wl x)) refl)
-          | inr k ↦ both_ways (before u (take wl x)) (left.2 u i (on_left_lem A B start u v l q)) k
-        ])
-      ]
-
-      pub product_over : Least ps (Excluded (take wl x)) wl None → Least (lines_by Product ps qs) (with_line start (A ++ B)) (wl + wr) None
-      product_over f = none_by_parts (λ u v i j l q. both_ways (before (take wl x) u) (f u i) (left_past u v i j l q))
-
-      pub product_next : (c y z : List ℕ) → Least ps (Excluded (take wl x)) wl (Some c) → Least qs Unbounded wr (Some y) → take (wl + wr) z ≡ take wl c ++ take wr y → length z ≡ 8 → Padded (wl + wr) z → Least (lines_by Product ps qs) (with_line start (A ++ B)) (wl + wr) (Some z)
-      product_next c y z next first e l p =
-          let X : List ℕ = take wl c in
-          let Y : List ℕ = take wr y in
-          let lx : length A ≡ length X = al ∙ sym (long X next.0) in
-          let least : (t : List ℕ) → Memᴰ t (lines_by Product ps qs) → reaches (with_line start (A ++ B)) t ≡ true → before t (X ++ Y) ≡ false = by_parts (λ t. before t (X ++ Y) ≡ false)
-          (λ u v i j lu q. not_less u v X Y (sym lu ∙ lx) (next.2 u i (left_past u v i j lu q)) (λ s. first.2 v j refl)) in (
-            subst (λ t. Memᴰ t (lines_by Product ps qs)) (sym e) (pairs_put next.0 first.0),
-            subst (λ t. reaches (with_line start (A ++ B)) t ≡ true) (sym e) (reach_next A B start (take wl x) X Y lx left.1 next.1),
-            (λ t m q. subst (λ s. before t s ≡ false) (sym e) (least t m q)),
-            l,
-            p,
-          )

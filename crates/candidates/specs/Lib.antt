@@ -1,3 +1,4 @@
 pub mod Candidates
+pub mod Wanting
 pub mod Seeking
 pub mod Laws

@@ -1,9 +1,13 @@
 -- The search for the least line from a start on.
-use Rattle.std.specs.Prelude.{◌≡◌, ℕ, ◌≤◌, Bool, true, false, cond, not, List, [], ◌∷◌, length, take, replicate, Some, None, Option, slice_index}
+use Rattle.std.specs.Prelude.{◌≡◌, ℕ, ◌≤◌, Bool, true, false, cond, not, List, [], ◌∷◌, length, take, replicate, Some, None, filter, Option, slice_index}
 use mathlib.Core.List.{Memᴰ}
+use Rattle.ordered.specs.Lists.{items_in}
 use Rattle.candidates.specs.Candidates.{before, candidates_at}
+use Rattle.candidates.specs.Wanting.{passes}
+use Rattle.candidates.specs.declared.wanted.Wanted.{Wanted}
 use Rattle.store.specs.declared.row.Row.{Row}
-use Rattle.plan.specs.Plans.{nodes_of, widths_of}
+use Rattle.store.specs.declared.comparison.Comparison.{Comparison}
+use Rattle.plan.specs.Plans.{nodes_of, widths_of, starts_of}
 use Rattle.plan.specs.declared.line.Line.{Line}
 use Rattle.plan.specs.declared.plan.Plan.{Plan}
 use Rattle.std.specs.Range.Bound.{bound_map}
@@ -59,6 +63,11 @@ on_left (Excluded at) = Included at
 abbrev pub on_right : Bound (List ℕ) → Bool → Bound (List ℕ)
 on_right start past = cond past Unbounded start
 
--- what a search at the node k of a plan tells: its least candidate from the start on
-abbrev pub Finds : List Row → Plan → ℕ → Bound (List ℕ) → Option (List ℕ) → Type 0
-Finds rows plan k start = Least (candidates_at rows (nodes_of plan) k) (bound_map (take (slice_index (widths_of plan) k)) start) (slice_index (widths_of plan) k)
+-- what a search at the node k of a plan tells: the least from the start on of its candidates that pass, after these known columns
+abbrev pub FindsBy : List Row → Plan → ℕ → List (Comparison ℕ) → List ℕ → Bound (List ℕ) → Option (List ℕ) → Type 0
+FindsBy rows plan k comparisons known start =
+    Least (filter (passes comparisons known) (candidates_at rows (nodes_of plan) k)) (bound_map (take (slice_index (widths_of plan) k)) start) (slice_index (widths_of plan) k)
+
+-- the same of what is wanted of the plan's whole line
+abbrev pub Finds : List Row → Plan → ℕ → Wanted → Bound (List ℕ) → Option (List ℕ) → Type 0
+Finds rows plan k wanted = FindsBy rows plan k (items_in wanted.comparisons) (take (slice_index (starts_of plan) k) wanted.known)

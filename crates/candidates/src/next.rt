@@ -6,6 +6,7 @@ ghost use Rattle.candidates.specs.Candidates.{NextSays};
 ghost use Rattle.candidates.specs.Seeking.{past};
 
 use crate::nodes::Candidates;
+use crate::wanted::Wanted;
 use plan::{Line, Plan};
 use std::ops::Bound;
 use store::Source;
@@ -27,6 +28,6 @@ pub fn next_candidate<S: Source>(source: &S, plan: &Plan, after: Option<Line>) -
     ensures { NextSays (nodes_of plan.now) (rows_of (S.Source.model source.now).places) after result }
 {
     let last = plan.steps().len() - 1;
-    let columns = Candidates { source, plan }.least(last, past(after))?;
+    let columns = Candidates { source, plan }.least(last, past(after), &Wanted::nothing())?;
     Some(Line { columns })
 }

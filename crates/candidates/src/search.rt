@@ -1,11 +1,14 @@
 // The search for the least line from a start on, where lines are arrays of eight columns of which the first so many count.
-ghost use Rattle.std.specs.Prelude.{◌≡◌, ◌-◌, ◌≤◌, [], ◌∷◌, ◌++◌, length, take, drop};
+ghost use Rattle.std.specs.Prelude.{◌≡◌, ◌+◌, ◌-◌, ◌≤◌, [], ◌∷◌, ◌++◌, length, take, drop, filter};
 ghost use Rattle.std.specs.Range.Bound.{bound_map};
 ghost use Rattle.plan.specs.Leaves.{opens, leaf_lines};
 ghost use Rattle.candidates.specs.Seeking.{reaches, line_of, Padded, Least, lesser, on_left, on_right};
 ghost use Rattle.candidates.specs.Candidates.{before};
+ghost use Rattle.candidates.specs.Wanting.{passes};
+ghost use Rattle.ordered.specs.Lists.{items_in};
 
 use crate::leaf::line_of;
+use crate::wanted::Wanted;
 use plan::PlanLeaf;
 use std::ops::Bound;
 use store::Row;
@@ -69,12 +72,20 @@ impl Search {
         }
     }
 
-    // The least line of one row at a leaf: the row's line, if it has one there and the search takes it.
-    pub fn least_of(&self, leaf: &PlanLeaf, row: &Row) -> Option<[u32; 8]>
-        requires { self.now.width ≡ opens leaf.now.fields }
-        ensures { Least (leaf_lines leaf.now.relation leaf.now.fields (row.now ∷ [])) (bound_map (take self.now.width) self.now.start) self.now.width result }
+    // The least line of one row at a leaf whose line begins at that column: the row's line, if it has one there that passes and the
+    // search takes it.
+    pub fn least_of(
+        &self,
+        leaf: &PlanLeaf,
+        row: &Row,
+        wanted: &Wanted,
+        at: usize,
+    ) -> Option<[u32; 8]>
+        requires wide { self.now.width ≡ opens leaf.now.fields }
+        requires room { at + self.now.width ≤ 8 }
+        ensures { Least (filter (passes (items_in wanted.now.comparisons) (take at wanted.now.known)) (leaf_lines leaf.now.relation leaf.now.fields (row.now ∷ []))) (bound_map (take self.now.width) self.now.start) self.now.width result }
     {
-        line_of(leaf, row).filter(|line| self.reaches(line))
+        line_of(leaf, row).filter(|line| self.reaches(line) && wanted.passes(at, line, self.width))
     }
 
     // A line of a product: a left line, as wide as the cut, followed by a right line.
