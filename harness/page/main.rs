@@ -1,6 +1,10 @@
 //! Compares the proved page check with a second one, written from the format's words, on random
 //! and damaged pages. The seeds are fixed, so that a run can be repeated.
 
+#[path = "../dice.rs"]
+mod dice;
+
+use dice::Dice;
 use std::collections::HashSet;
 use std::process::ExitCode;
 
@@ -72,37 +76,11 @@ fn plain(bytes: &[u8], arities: &[u8]) -> Finding {
     refusal(0, 0)
 }
 
-/// A generator of numbers that looks random enough (splitmix64).
-struct Dice(u64);
-
-impl Dice {
-    fn next(&mut self) -> u64 {
-        self.0 = self.0.wrapping_add(0x9E37_79B9_7F4A_7C15);
-        let mut z = self.0;
-        z = (z ^ (z >> 30)).wrapping_mul(0xBF58_476D_1CE4_E5B9);
-        z = (z ^ (z >> 27)).wrapping_mul(0x94D0_49BB_1331_11EB);
-        z ^ (z >> 31)
-    }
-
-    fn below(&mut self, limit: usize) -> usize {
-        (self.next() % limit as u64) as usize
-    }
-
-    fn byte(&mut self) -> u8 {
-        self.next() as u8
-    }
-
-    /// True once in so many times.
-    fn once_in(&mut self, times: usize) -> bool {
-        self.below(times) == 0
-    }
-}
-
 /// Arities: mostly 1 to 4, some 0 or above 4, and now and then too few or too many bytes.
 fn arities(dice: &mut Dice) -> Vec<u8> {
     let length = if dice.once_in(4) { dice.below(20) } else { 16 };
     (0..length)
-        .map(|_| if dice.once_in(8) { dice.byte() } else { 1 + dice.below(4) as u8 })
+        .map(|_| if dice.once_in(8) { dice.next() as u8 } else { 1 + dice.below(4) as u8 })
         .collect()
 }
 
@@ -150,7 +128,7 @@ fn damage(dice: &mut Dice, bytes: &mut Vec<u8>) {
     let at = dice.below(bytes.len());
     let place = at / RECORD * RECORD;
     match dice.below(9) {
-        0 => bytes[at] = dice.byte(),
+        0 => bytes[at] = dice.next() as u8,
         1 => bytes[at] ^= 1 << dice.below(8),
         2 => bytes[place] = [0x49, 0x2E, 0x43, 0][dice.below(4)],
         3 if place + 1 < bytes.len() => bytes[place + 1] = [0x49, 0x2E, 0x43, 0][dice.below(4)],
@@ -173,7 +151,7 @@ fn damage(dice: &mut Dice, bytes: &mut Vec<u8>) {
 fn page(dice: &mut Dice, arities: &[u8]) -> Vec<u8> {
     if dice.once_in(20) {
         let length = dice.below(130);
-        return (0..length).map(|_| [0x49, 0x43, 0x2E, 0, 1, dice.byte()][dice.below(6)]).collect();
+        return (0..length).map(|_| [0x49, 0x43, 0x2E, 0, 1, dice.next() as u8][dice.below(6)]).collect();
     }
     let spread = if dice.once_in(3) { 4 } else { 1000 };
     let mut bytes = Vec::new();

@@ -2,15 +2,18 @@
 //! second one looks at every subset of the rows that are in conflicts, and at every choice of rows for a rule.
 //! The seeds are fixed, so that a run can be repeated.
 //!
-//! Arguments: the program; `--without-plans` to leave out `verdict` and `sheet`; and a number of scripts for each seed.
+//! Arguments: the program, and a number of scripts for each seed.
 
 mod counter;
+#[path = "../dice.rs"]
+mod dice;
 mod language;
 mod plans;
 mod rows;
 mod scripts;
 
-use scripts::{script, Dice, Script};
+use dice::Dice;
+use scripts::{script, Script};
 use std::io::{Read, Write};
 use std::process::{Command, ExitCode, Stdio};
 use std::sync::mpsc::channel;
@@ -84,24 +87,17 @@ fn show(script: &Script, bytes: &[u8]) {
 }
 
 /// The refusals that have to be met, and 0 for a line that is not refused.
-fn to_meet(plans: bool) -> Vec<u32> {
-    let mut numbers: Vec<u32> = (0..=4).chain(11..=16).chain(21..=25).collect();
-    if plans {
-        numbers.extend([31, 33, 34, 41, 42, 45]);
-    }
-    numbers
-}
+const TO_MEET: [u32; 22] = [0, 1, 2, 3, 4, 11, 12, 13, 14, 15, 16, 21, 22, 23, 24, 25, 31, 33, 34, 41, 42, 45];
 
 fn main() -> ExitCode {
     let arguments: Vec<String> = std::env::args().skip(1).collect();
     let program = arguments.first().expect("the first argument is the program");
-    let plans = !arguments.iter().any(|argument| argument == "--without-plans");
     let scripts = arguments.iter().find_map(|argument| argument.parse().ok()).unwrap_or(SCRIPTS);
     let mut met = [0usize; 256];
     for seed in SEEDS {
         let mut dice = Dice(seed);
         for turn in 0..scripts {
-            let script = script(&mut dice, plans);
+            let script = script(&mut dice);
             let (bytes, ended) = printed(program, &script.text).expect("the program runs");
             if bytes != script.words.concat().as_bytes() || ended.is_some() {
                 std::fs::write(LEFT, &script.text).expect("the script is left");
@@ -114,12 +110,12 @@ fn main() -> ExitCode {
             }
         }
     }
-    let seldom: Vec<u32> = to_meet(plans).into_iter().filter(|number| met[*number as usize] < 10).collect();
+    let seldom: Vec<u32> = TO_MEET.into_iter().filter(|number| met[*number as usize] < 10).collect();
     if !seldom.is_empty() {
         println!("refusals that were met less than 10 times: {seldom:?}");
         return ExitCode::FAILURE;
     }
-    let counts: Vec<String> = to_meet(plans).iter().skip(1).map(|number| format!("{number}: {}", met[*number as usize])).collect();
+    let counts: Vec<String> = TO_MEET.iter().skip(1).map(|number| format!("{number}: {}", met[*number as usize])).collect();
     println!("{} scripts, 0 differences; lines not refused {}, refused {}", SEEDS.len() * scripts, met[0], counts.join(", "));
     ExitCode::SUCCESS
 }

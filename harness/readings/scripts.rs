@@ -1,6 +1,7 @@
 //! Random scripts: small numbers, so that rows meet again; every command; and damaged lines.
 
 use crate::counter::Counter;
+use crate::dice::Dice;
 use crate::language::{parse, Command};
 use crate::plans::{answers, fits_rink, most_lines, refusal, sure, width, Line, Plan};
 use crate::rows::{arity, rivals, Row, Rows, MOST_RIVALS};
@@ -9,27 +10,7 @@ use std::collections::BTreeSet;
 /// A random plan has at most so many lines, since each of them is made for every reading.
 const MOST_LINES: usize = 2000;
 
-/// A generator of numbers that looks random enough (splitmix64).
-pub struct Dice(pub u64);
-
 impl Dice {
-    fn next(&mut self) -> u64 {
-        self.0 = self.0.wrapping_add(0x9E37_79B9_7F4A_7C15);
-        let mut z = self.0;
-        z = (z ^ (z >> 30)).wrapping_mul(0xBF58_476D_1CE4_E5B9);
-        z = (z ^ (z >> 27)).wrapping_mul(0x94D0_49BB_1331_11EB);
-        z ^ (z >> 31)
-    }
-
-    fn below(&mut self, limit: usize) -> usize {
-        (self.next() % limit as u64) as usize
-    }
-
-    /// True once in so many times.
-    fn once_in(&mut self, times: usize) -> bool {
-        self.below(times) == 0
-    }
-
     fn shuffle<T>(&mut self, items: &mut [T]) {
         for at in (1..items.len()).rev() {
             items.swap(at, self.below(at + 1));
@@ -72,7 +53,6 @@ struct Writer<'a> {
     dice: &'a mut Dice,
     counter: Counter,
     kind: Kind,
-    plans: bool,
     /// There are so many pads, slots and clubs.
     spread: [usize; 3],
     /// The lines that it begins with, the first one last.
@@ -82,8 +62,8 @@ struct Writer<'a> {
     script: Script,
 }
 
-/// A random script; without plans it has no `verdict` and no `sheet`.
-pub fn script(dice: &mut Dice, plans: bool) -> Script {
+/// A random script.
+pub fn script(dice: &mut Dice) -> Script {
     let kind = match dice.below(24) {
         0 => Kind::Crowded,
         1 => Kind::Quarrels,
@@ -110,7 +90,7 @@ pub fn script(dice: &mut Dice, plans: bool) -> Script {
     prepared.reverse();
     let first = [dice.of(&[0, 1, 1, 2, 2, 3]), 4 + dice.below(16)];
     let script = Script { text: Vec::new(), words: Vec::new(), met: Vec::new() };
-    let mut writer = Writer { dice, counter: Counter::new(), kind, plans, spread, prepared, first, script };
+    let mut writer = Writer { dice, counter: Counter::new(), kind, spread, prepared, first, script };
     for _ in 0..lines {
         let line = writer.line();
         writer.write(&line);
@@ -190,7 +170,7 @@ impl Writer<'_> {
         if rivals.is_empty() && self.counter.rules.len() < 8 && self.kind == Kind::Ordinary && self.dice.once_in(3) {
             return self.rule();
         }
-        let plans = self.plans && rivals.len() <= MOST_RIVALS;
+        let plans = rivals.len() <= MOST_RIVALS;
         if plans && rivals.len() > 6 && self.dice.once_in(2) {
             return self.verdict();
         }
@@ -343,7 +323,7 @@ impl Writer<'_> {
     /// A row of one relation, or the sheet of all pairs of such rows.
     fn long_sheet(&mut self) -> String {
         const SHEETS: [&str; 4] = ["4:_,_ 4:_,_ *", "4:_,_ 4:_,_ * c0#c2", "4:_,_ 4:_,_ * 0:_,_ 0:_,_ * +", "4:_,7 4:_,7 *"];
-        if self.plans && self.rivals().len() <= MOST_RIVALS && self.dice.once_in(2) {
+        if self.rivals().len() <= MOST_RIVALS && self.dice.once_in(2) {
             return format!("sheet {}", self.dice.of(&SHEETS));
         }
         let verb = if self.counter.rows.len() < 16 + self.dice.below(4) { "enter" } else { "strike" };
