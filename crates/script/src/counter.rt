@@ -2,6 +2,7 @@
 use book::Book;
 use plan::Line;
 use store::{Row, Table};
+use verdict::MARK_BYTES;
 
 mod asking;
 pub mod telling;
@@ -9,8 +10,8 @@ pub mod telling;
 #[derive(Drop)]
 pub struct Counter {
     book: Book<Table>,
-    // for a verdict or a sheet: one mark byte for each place that a source may have
-    marks: [u8; 256],
+    // for a verdict or a sheet
+    marks: [u8; MARK_BYTES],
     // for a verdict: as many rows as a core may have
     core: [Row; 12],
     // for a sheet: its lines

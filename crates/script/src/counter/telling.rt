@@ -11,6 +11,7 @@ use book::Book;
 use commands::{Command, parse};
 use plan::Line;
 use store::{Row, Table};
+use verdict::MARK_BYTES;
 
 impl Counter {
     // A counter with the rink's relations, no rows and no rules, that was told no line yet.
@@ -23,7 +24,7 @@ impl Counter {
     {
         Counter {
             book: Book::open(Table::new(&rink::ARITIES)),
-            marks: [0; 256],
+            marks: [0; MARK_BYTES],
             core: [Row::BLANK; 12],
             sheet: [Line { columns: [0; 8] }; 256],
             lines: 0,
