@@ -1,5 +1,5 @@
 -- A sheet goes on with a lawful life: the plain book is asked the same, and its rows and readings are the source's.
-use Rattle.std.proofs.Common.{◌≡◌, ℕ, ◌<◌, List, length, take, Some, Ok, Err, Option, Result, sym, refl, ap, ◌∙◌, subst, arith}
+use Rattle.std.proofs.Common.{◌≡◌, ℕ, ◌<◌, List, length, take, Some, Ok, Err, Result, sym, refl, ap, ◌∙◌, subst, arith}
 use mathlib.Core.List.Memᴰ
 use Rattle.std.specs.Option.{option_map}
 use Rattle.std.proofs.lemmas.List.{length-take}

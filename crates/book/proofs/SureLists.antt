@@ -1,5 +1,5 @@
 -- What is told of sure lines stays the same when the rows and the conflicts are told otherwise, with the same rows and readings.
-use Rattle.std.proofs.Common.{◌≡◌, ℕ, true, List, sym}
+use Rattle.std.proofs.Common.{◌≡◌, ℕ, List, sym}
 use Rattle.store.specs.Held.{rows_of}
 use Rattle.store.specs.Store.{Store}
 use Rattle.store.specs.declared.row.Row.{Row}

@@ -1,4 +1,4 @@
-use Rattle.std.proofs.Common.{◌≡◌, length, Ok, Err, sym, ap, ◌∙◌, subst, rules as search_rules}
+use Rattle.std.proofs.Common.{◌≡◌, length, Ok, Err, sym, subst, rules as search_rules}
 use Rattle.rules.specs.Entries.{listing as listing_of}
 use Rattle.cores.proofs.ByRules.{listed_held}
 use Rattle.book.specs.Books.{rules_of}
