@@ -5,6 +5,7 @@ use std::io;
 
 mod counts;
 mod desk;
+mod lent;
 mod limits;
 mod plains;
 mod refusals;
@@ -26,5 +27,7 @@ fn main(rt: HostRuntime) -> io::Result<()> {
     refusals::no_such_conflict(&rt)?;
     plains::answers(&rt)?;
     plains::wrong_arities(&rt)?;
-    plains::wrong_lines(&rt)
+    plains::wrong_lines(&rt)?;
+    lent::verdicts(&rt)?;
+    lent::sheets(&rt)
 }

@@ -10,7 +10,7 @@ use rink::row;
 use std::io;
 
 // The plan of these nodes, where they make one.
-fn plan_of(nodes: &[Node]) -> Plan
+pub(crate) fn plan_of(nodes: &[Node]) -> Plan
     ensures { fill_refusal nodes.now ≡ None → nodes_of result ≡ nodes.now }
 {
     Plan::of(nodes).unwrap_or(Plan::new())

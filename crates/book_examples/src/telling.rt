@@ -3,6 +3,7 @@ use crate::desk::Desk;
 use book::{Forbidden, Refusal};
 use fault::Notice;
 use std::io;
+use store::Row;
 
 // Says how a call went: taken, or refused with its number, layer and position.
 pub(crate) fn call<T: Drop>(
@@ -45,7 +46,12 @@ pub(crate) fn conflict(
 fn rule_and_rows(rt: &HostRuntime, shown: &str, forbidden: &Forbidden) -> io::Result<()> {
     let rule = forbidden.rule;
     print!(rt; "{shown}: rule {rule} forbids")?;
-    for row in forbidden.rows.as_slice() {
+    rows(rt, forbidden.rows.as_slice())
+}
+
+// Ends a line with these rows.
+pub(crate) fn rows(rt: &HostRuntime, rows: &[Row]) -> io::Result<()> {
+    for row in rows {
         let relation = row.relation;
         let columns = &row.columns;
         print!(rt; " {relation}{columns:?}")?;
