@@ -2,7 +2,6 @@
 //
 // A book is filled and emptied under one rule, at several numbers of rows, and then verdicts and sheets are asked of books whose
 // rows make many conflicts. The least time of many rounds or calls is told, since other work on the machine only adds to it.
-// One case takes so long that it is measured apart: bench slow.
 #![tactic(auto)]
 
 use crate::case::Case;
@@ -23,7 +22,7 @@ mod round;
 mod scene;
 mod trouble;
 
-const CASES: [Case; 8] = [
+const CASES: [Case; 9] = [
     Case::Rival,
     Case::AnyRival,
     Case::Held,
@@ -32,6 +31,7 @@ const CASES: [Case; 8] = [
     Case::Two,
     Case::Pairs,
     Case::Three,
+    Case::Behind,
 ];
 
 // What the program is to do.
@@ -39,14 +39,12 @@ const CASES: [Case; 8] = [
 enum Task {
     Usage,
     Run,
-    Slow,
 }
 
 fn main(rt: HostRuntime) -> Result<(), Trouble> {
     match asked(&rt)? {
         Task::Usage => usage(&rt)?,
         Task::Run => run(&rt)?,
-        Task::Slow => Ground::Page.judge(&rt, Case::Behind)?,
     }
     Ok(())
 }
@@ -57,18 +55,16 @@ fn asked(rt: &HostRuntime) -> io::Result<Task> {
     let _ = words.next();
     Ok(match words.next() {
         Some(word) if word.as_str() == "run" => Task::Run,
-        Some(word) if word.as_str() == "slow" => Task::Slow,
         _ => Task::Usage,
     })
 }
 
 fn usage(rt: &HostRuntime) -> io::Result<()> {
-    println!(rt; "usage: bench run|slow")?;
+    println!(rt; "usage: bench run")?;
     println!(rt;
         "Run prints the nanoseconds of an entry, a strike and a rule of a book over a table and over a page,"
     )?;
-    println!(rt; "and the microseconds of a page's check, of verdicts and of sheets.")?;
-    println!(rt; "Slow prints those of a verdict and a sheet that take many seconds.")
+    println!(rt; "and the microseconds of a page's check, of verdicts and of sheets.")
 }
 
 fn run(rt: &HostRuntime) -> Result<(), Trouble> {

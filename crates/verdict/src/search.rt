@@ -1,13 +1,16 @@
 // The search for a conflict to each row that is to be out.
-ghost use Rattle.std.specs.Prelude.{◌≡◌, ◌≤◌, true, length};
+ghost use Rattle.std.specs.Prelude.{◌≡◌, ◌≤◌, true, MatchBool, length};
 ghost use Rattle.store.specs.Lists.{all};
+ghost use Rattle.cores.specs.Backing.{NoneWorks};
 ghost use Rattle.verdict.specs.Marking.{lists_of, have_bytes};
+ghost use Rattle.verdict.specs.Trying.{Found};
 
 use rules::Conflict;
 
 pub mod ahead;
 pub mod laying;
 pub mod seeking;
+pub mod threes;
 
 // The places of some rows that are to be in a reading, and of others that are to be out of it.
 #[derive(Clone, Copy)]
@@ -18,4 +21,18 @@ pub struct Search<'a> {
     ghost inside: { all have_bytes (lists_of conflicts.now) ≡ true },
     ghost near: { have_bytes ins.now ≡ true },
     ghost few: { length outs.now ≤ 7 },
+}
+
+impl Search<'_> {
+    // Whether the rows can be in and out as they are to be; then the rows that show it are marked. Two looks ahead come first: the
+    // search alone would find rows that cannot be out together anew for each choice of those before them.
+    pub fn find(&self, marks: &mut [u8]) -> bool
+        requires room { 256 ≤ length marks.old }
+        requires six { length self.now.outs.now ≤ 6 }
+        ensures { MatchBool result
+            (Found (lists_of self.now.conflicts.now) self.now.ins.now self.now.outs.now marks.new)
+            (NoneWorks (lists_of self.now.conflicts.now) self.now.ins.now self.now.outs.now) }
+    {
+        self.can_start_at_each(marks) && self.finds_each_three(marks) && self.seek(marks)
+    }
 }

@@ -29,7 +29,7 @@ impl Cases<'_> {
             ins: sides.ins.as_slice(),
             outs: sides.outs.as_slice(),
         };
-        search.can_start_at_each(marks) && search.seek(marks)
+        search.find(marks)
     }
 
     // Whether some way makes the line no answer, and can be; then the rows that show it are marked.

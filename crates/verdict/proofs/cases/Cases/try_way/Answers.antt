@@ -12,26 +12,14 @@ invariant_of-search c = record {
   few = let h = c.as_slice-2.ensures.within in omega arith;
 }
 
-pub returns-then-can_start_at_each : goal.returns-then-can_start_at_each
-returns-then-can_start_at_each c =
+pub returns : goal.returns
+returns c =
     let C = lists_of c.args.self.now.conflicts.now in
     let lost = lost_by c.args.self.now.plan.now c.args.self.now.line.now.columns in
     let leaves = c.args.self.now.leaves.now in
     let way = c.way_of-way.result in
     let six = c.args.self.now.six in
     let long : length leaves ≤ length way = omega (arith, ap length c.way_of-way.ensures) in
-    subst (λ w. MatchBool c.seek.result (Lost C lost leaves c.seek.new.marks) (Kept C lost leaves w)) c.way_of-way.ensures
-    (way_says C lost leaves way c.as_slice.result.now c.as_slice-2.result.now c.seek.new.marks (ap not (sym c.if-holds.ensures.told)) c.in-Some.ensures.may long c.seek.result
-    (c.as_slice.ensures.items ∙ c.in-Some.ensures.ins) (c.as_slice-2.ensures.items ∙ c.in-Some.ensures.outs) c.seek.ensures)
-
-pub returns-else-can_start_at_each : goal.returns-else-can_start_at_each
-returns-else-can_start_at_each c =
-    let C = lists_of c.args.self.now.conflicts.now in
-    let lost = lost_by c.args.self.now.plan.now c.args.self.now.line.now.columns in
-    let leaves = c.args.self.now.leaves.now in
-    let way = c.way_of-way.result in
-    let six = c.args.self.now.six in
-    let long : length leaves ≤ length way = omega (arith, ap length c.way_of-way.ensures) in
-    subst (λ w. MatchBool c.can_start_at_each.result (Lost C lost leaves c.can_start_at_each.new.marks) (Kept C lost leaves w)) c.way_of-way.ensures
-    (way_says C lost leaves way c.as_slice.result.now c.as_slice-2.result.now c.can_start_at_each.new.marks (ap not (sym c.if-holds.ensures.told)) c.in-Some.ensures.may long c.can_start_at_each.result
-    (c.as_slice.ensures.items ∙ c.in-Some.ensures.ins) (c.as_slice-2.ensures.items ∙ c.in-Some.ensures.outs) (rw c.if-can_start_at_each.false c.if-can_start_at_each.ensures))
+    subst (λ w. MatchBool c.find.result (Lost C lost leaves c.find.new.marks) (Kept C lost leaves w)) c.way_of-way.ensures
+    (way_says C lost leaves way c.as_slice.result.now c.as_slice-2.result.now c.find.new.marks (ap not (sym c.if-holds.ensures.told)) c.in-Some.ensures.may long c.find.result
+    (c.as_slice.ensures.items ∙ c.in-Some.ensures.ins) (c.as_slice-2.ensures.items ∙ c.in-Some.ensures.outs) c.find.ensures)
