@@ -48,6 +48,13 @@ pub record Stack (C : List (List ℕ)) (ins outs xs : List ℕ) (d : ℕ) : Type
   pub real : Real C outs (take d xs)
   pub left : (k : ℕ) → k ≤ d → Left C ins outs (take k xs) (get_or xs k 0)
 
+-- one more number below n
+pub push_numbers : (n : ℕ) (q : List ℕ) (c : ℕ) → Numbers n q → c < n → Numbers n (q ++ c ∷ [])
+push_numbers n [] c all lt zero h = lt
+push_numbers n [] c all lt (suc j) h = absurd (omega arith)
+push_numbers n (x ∷ q) c all lt zero h = all 0 (omega arith)
+push_numbers n (x ∷ q) c all lt (suc j) h = push_numbers n q c (λ i g. all (suc i) (omega arith)) lt j (omega arith)
+
 abbrev pub cost : ℕ → ℕ → List ℕ → ℕ → ℕ
 cost n s xs d = work n s (take d xs ++ get_or xs d 0 ∷ [])
 
@@ -62,13 +69,7 @@ module _ (C : List (List ℕ)) (ins outs xs : List ℕ) (d : ℕ) (st : Stack C 
   long_front = let a = st.size in let b = st.few in let e = st.deep in length-take-le (d + 1) xs (omega arith)
 
   pub numbers : get_or xs d 0 < length C → Numbers (length C) (take (d + 1) xs)
-  numbers lt k h = subst (λ t. get_or t k 0 < length C) (sym front) (push (take d xs) (get_or xs d 0) (λ j g. (st.real j g).0) lt k (let e = long_front in let f = ap length front in omega arith))
-    where
-      push : (q : List ℕ) (c : ℕ) → Numbers (length C) q → c < length C → (j : ℕ) → j < length (q ++ c ∷ []) → get_or (q ++ c ∷ []) j 0 < length C
-      push [] c all lt zero h = lt
-      push [] c all lt (suc j) h = absurd (omega arith)
-      push (x ∷ q) c all lt zero h = all 0 (omega arith)
-      push (x ∷ q) c all lt (suc j) h = push q c (λ i g. all (suc i) (omega arith)) lt j (omega arith)
+  numbers lt k h = subst (λ t. get_or t k 0 < length C) (sym front) (push_numbers (length C) (take d xs) (get_or xs d 0) (λ j g. (st.real j g).0) lt k (let e = long_front in let f = ap length front in omega arith))
 
   -- another choice at this depth
   module _ (v : ℕ) (kept : Left C ins outs (take d xs) v) where

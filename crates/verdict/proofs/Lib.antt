@@ -10,3 +10,4 @@ pub mod Marked
 pub mod Placed
 pub mod Judged
 pub mod Turned
+pub mod Straight

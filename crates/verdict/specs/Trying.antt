@@ -1,6 +1,6 @@
 -- What the search for choices has found out.
 use Rattle.std.specs.Prelude.{◌≡◌, ℕ, ◌<◌, ◌≤◌, Bool, true, Option, List, ◌∷◌, [], ◌++◌, length, ◌-◌, slice_index, slice_index_or}
-use Rattle.cores.specs.Backing.{clear_places, one_of, backing, Works, NoneWorks}
+use Rattle.cores.specs.Backing.{clear_places, one_of, backing, Real, Works, NoneWorks}
 use Rattle.cores.specs.Searching.{NoneBeyond}
 use Rattle.cores.specs.Settling.{SomeWay}
 use Rattle.cores.specs.Ways.{ins_of, outs_of, possible}
@@ -20,6 +20,11 @@ pub record Stand (C : List (List ℕ)) (ins outs choices marks : List ℕ) : Typ
 pub record Admits (C : List (List ℕ)) (ins outs choices marks : List ℕ) : Type 0 where
   pub stand : Stand C ins outs choices marks
   pub has : one_of (slice_index_or C (slice_index choices (length choices - 1)) []) (slice_index outs (length choices - 1)) ≡ true
+
+-- they stand, and each is a conflict of the row that it is made for
+pub record Chosen (C : List (List ℕ)) (ins outs choices marks : List ℕ) : Type 0 where
+  pub real : Real C outs choices
+  pub stand : Stand C ins outs choices marks
 
 -- beyond these choices only the conflicts from number k on are left to try: where nothing works beyond any of them, nothing does
 abbrev pub Left : List (List ℕ) → List ℕ → List ℕ → List ℕ → ℕ → Type 0

@@ -7,8 +7,8 @@
 // Four things cut the search. A row that is to be out and is in no conflict ends it before it begins. A choice after which a whole conflict is marked is given up at once. A row that has a conflict
 // whose other rows are all marked already is given that one alone, since no other asks less. And a choice that leaves no
 // conflict to some later row that is out is given up before the rows between are looked at. Before the search each row that is
-// to be out is tried as the first, and each three of them alone, so that two or three rows that cannot be out together are found
-// wherever they stand.
+// to be out is tried as the first, and, unless no choice has to be taken back, each three of them are searched alone: so two or
+// three rows that cannot be out together are found wherever they stand.
 // Nothing is allocated, and nothing calls itself: six choices are all there can be.
 #![tactic(auto)]
 

@@ -10,6 +10,7 @@ use rules::Conflict;
 pub mod ahead;
 pub mod laying;
 pub mod seeking;
+pub mod straight;
 pub mod threes;
 
 // The places of some rows that are to be in a reading, and of others that are to be out of it.
@@ -24,8 +25,9 @@ pub struct Search<'a> {
 }
 
 impl Search<'_> {
-    // Whether the rows can be in and out as they are to be; then the rows that show it are marked. Two looks ahead come first: the
-    // search alone would find rows that cannot be out together anew for each choice of those before them.
+    // Whether the rows can be in and out as they are to be; then the rows that show it are marked. The looks ahead see two or three
+    // rows that cannot be out together, which the search alone would find out anew for each choice of the rows before them. It is
+    // as quick of three rows or fewer, and of most that can be out: these have no need of the second look.
     pub fn find(&self, marks: &mut [u8]) -> bool
         requires room { 256 ≤ length marks.old }
         requires six { length self.now.outs.now ≤ 6 }
@@ -33,6 +35,12 @@ impl Search<'_> {
             (Found (lists_of self.now.conflicts.now) self.now.ins.now self.now.outs.now marks.new)
             (NoneWorks (lists_of self.now.conflicts.now) self.now.ins.now self.now.outs.now) }
     {
-        self.can_start_at_each(marks) && self.finds_each_three(marks) && self.seek(marks)
+        if !self.can_start_at_each(marks) {
+            return false;
+        }
+        if self.outs.len() < 4 {
+            return self.seek(marks);
+        }
+        self.finds_straight(marks) || self.finds_each_three(marks) && self.seek(marks)
     }
 }

@@ -42,14 +42,11 @@ impl Search<'_> {
         true
     }
 
-    // The same of each three; of one, two or three the search itself finds out as soon.
+    // The same of each three.
     pub fn finds_each_three(&self, marks: &mut [u8]) -> bool
         requires room { 256 ≤ length marks.old }
         ensures { MatchBool result ⊤ (NoneWorks (lists_of self.now.conflicts.now) self.now.ins.now self.now.outs.now) }
     {
-        if self.outs.len() < 4 {
-            return true;
-        }
         for first in 0..self.outs.len() {
             if !self.finds_each_second(marks, first) {
                 return false;
