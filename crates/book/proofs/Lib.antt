@@ -3,6 +3,7 @@ pub mod Held
 pub mod Lent
 pub mod Lives
 pub mod Marks
+pub mod Opening
 pub mod Running
 pub mod Sheeting
 pub mod SureLists

@@ -1,5 +1,5 @@
 -- Every call goes on with a lawful life.
-use Rattle.std.proofs.Common.{◌≡◌, ℕ, true, ltb, List, length, Ok, Err, Result, sym, refl, ap, ◌∙◌, subst, inl, inr}
+use Rattle.std.proofs.Common.{◌≡◌, ℕ, true, ltb, List, [], length, Ok, Err, Result, sym, refl, ap, ◌∙◌, subst, inl, inr}
 use Rattle.std.specs.Option.{option_map}
 use Rattle.fault.specs.Questions.{ask}
 use Rattle.store.specs.Places.{OnceIn}
@@ -9,12 +9,16 @@ use Rattle.rules.specs.Refusals.{rule_refusal, notice_of as rule_notice}
 use Rattle.rules.specs.Rules.{Denial, AtMost}
 use Rattle.rules.specs.declared.refusal.Refusal.{Refusal as RuleRefusal}
 use Rattle.book.specs.Plain.{Plain, Asked, Told, entering, striking, ruling, taken, ruled, refused, most, entry_no, strike_no, rule_no, with_row, without_row, with_rule, Steps}
-use Rattle.book.specs.Runs.{History, more, Agrees, Life, LivesOn}
+use Rattle.book.specs.Runs.{opened, History, opening, more, Agrees, Life, LivesOn}
 use Rattle.book.specs.Calls.{EntrySays, StrikingSays, RuleSays, taken_by, ruled_by}
 use Rattle.book.specs.declared.refusal.Refusal.{Refusal}
 use Rattle.book.specs.declared.refusal.Refusal.TheVariants.{Source, EntryConflicts, TooManyRules, Rule, RuleConflicts, NoSuchConflict, Unanswered, Verdict as NoVerdict, Sheet as NoSheet}
 use Rattle.book.proofs.Answered.{number_of, entry_asks, strike_asks, goes_on, stops}
 use Rattle.book.proofs.Held.{agrees_put, few_put, agrees_struck, few_with, few_more, few_ruled, agrees_ruled}
+
+-- the opening starts a life
+pub born : (s : Store) → Life (opening (opened s)) s []
+born s = record { plain = opened s; leads = refl; agrees = record { arity = refl; rows = λ _. refl; empty = refl; taken = refl } }
 
 -- one step of the plain book carries a life on
 pub on : (h : History) (s s' : Store) (rules rules' : List Denial) (asked : Asked) (told : Told) (life : Life h s rules) (q : Plain) → Steps life.plain asked told q → Agrees q s' rules' → Life (more h asked told) s' rules'

@@ -1,5 +1,5 @@
 -- A run that goes one call further.
-use Rattle.std.proofs.Common.{List, [], ◌∷◌, ◌++◌, ap, subst, append_assoc}
+use Rattle.std.proofs.Common.{List, [], ◌∷◌, ◌++◌, sym, refl, ap, subst, append_assoc, append-nil}
 use Rattle.store.specs.Store.{Store}
 use Rattle.rules.specs.Rules.{Denial}
 use Rattle.book.specs.Outcomes.{Ran, RunSays}
@@ -11,6 +11,10 @@ ran_more h [] [] after asked told e = ap (λ x. more x asked told) e
 ran_more h [] (t ∷ tolds) after asked told no_way = absurd no_way
 ran_more h (a ∷ askeds) [] after asked told no_way = absurd no_way
 ran_more h (a ∷ askeds) (t ∷ tolds) after asked told r = ran_more (more h a t) askeds tolds after asked told r
+
+-- nothing was asked yet
+pub not_yet : (told : List Told → Type 0) (s : Store) (rules : List Denial) → RunSays told told [] s rules s rules
+not_yet told s rules before was h life = ([], subst told (sym (append-nil before)) was, (h, refl, life))
 
 -- one call more
 pub one_more : (told told' told'' : List Told → Type 0) (askeds : List Asked) (s s' s'' : Store) (rules rules' rules'' : List Denial) (asked : Asked) (t : Told) →

@@ -1,10 +1,11 @@
 -- Members of lists that ascend. Assumes nothing.
-use Rattle.std.proofs.Common.{◌≡◌, true, List, [], ◌∷◌, Ordering, Less, Equal, Greater, sym, refl, ap, ◌∙◌, subst, ⊎_elim, true≢false}
+use Rattle.std.proofs.Common.{◌≡◌, true, ◌||◌, List, [], ◌∷◌, Ordering, Less, Equal, Greater, sym, refl, ap, ◌∙◌, subst, ⊎_elim, true≢false}
 use mathlib.Core.List.Memᴰ
 use mathlib.Core.List.{Memᴰ}
 use Rattle.std.specs.Ordering.{is_eq}
 use Rattle.std.specs.List.{AllByRecursion as All}
 use Rattle.std.proofs.lemmas.Bool.{both_ways, or_left, or_right, or_cases}
+use Rattle.std.proofs.lemmas.Cmp.{alike_right}
 use Rattle.std.specs.Cmp.{IsTotalOrder}
 use Rattle.ordered.specs.Order.{rises, listed}
 use Rattle.ordered.proofs.Ascending.{head_first, tail_rises}
@@ -38,6 +39,11 @@ module _ {X : Type 0} (order : X → X → Ordering) where
   member_after x z xs up = all_member (λ y. order x y ≡ Less) z xs (head_first order x xs up)
 
 module _ {X : Type 0} {order : X → X → Ordering} (laws : IsTotalOrder order) where
+  -- what is equal to x in the order is listed where x is
+  pub listed_alike : (x z : X) (xs : List X) → order x z ≡ Equal → listed order x xs ≡ listed order z xs
+  listed_alike x z [] e = refl
+  listed_alike x z (y ∷ ys) e = λ i. is_eq (alike_right laws x z y e i) || listed_alike x z ys e i
+
   heads : (x y : X) (xs ys : List X) → rises order (x ∷ xs) ≡ true → rises order (y ∷ ys) ≡ true → Memᴰ x (y ∷ ys) → Memᴰ y (x ∷ xs) → x ≡ y
   heads x y xs ys a b m n = ⊎_elim
       (λ e. e)

@@ -10,7 +10,7 @@ use Rattle.plan.specs.Truths.{part_at, combined, truth_of, truths}
 use Rattle.plan.specs.declared.node.Node.{Node}
 use Rattle.plan.specs.declared.node.Node.TheVariants.{Leaf, Choice, Pair}
 use Rattle.plan.specs.declared.plan.Plan.{Plan}
-use Rattle.plan.proofs.Grown.{grown_at, length_grown, Local, pair_early}
+use Rattle.plan.proofs.Grown.{grown_at, length_grown, Agree, Local, pair_early}
 use Rattle.plan.proofs.Standing.{NoLeaf}
 
 truth_local : (own : Bool) (part : List ℕ) → Local false (truth_of own part)
@@ -40,6 +40,10 @@ module _ (plan : Plan) (columns : List ℕ) (truth : List Bool) (k : ℕ) (withi
   truth_after =
       let long : length (take k All) ≡ k = length-take-le k All (omega (arith, length_grown step (nodes_of plan))) in
       ap (λ n. truth_of (get_or truth (leaves_before (nodes_of plan) n) false) (part_at plan columns n) (take k All) (get_or (nodes_of plan) k blank)) (sym long) ∙ sym (grown_at step (nodes_of plan) k false within)
+
+  -- and from any list that has the truth of those before it
+  pub truth_by : (bs : List Bool) → Agree false k bs (truths plan columns truth) → truth_of Own (part_at plan columns k) bs (get_or (nodes_of plan) k blank) ≡ get_or (truths plan columns truth) k false
+  truth_by bs same = truth_local Own (part_at plan columns k) bs (take k All) k (λ j i. same j i ∙ sym (get_or-take k All j false i)) (get_or (nodes_of plan) k blank) (plan.early k within) ∙ truth_after
 
   pub truths_more : (bs : List Bool) (b : Bool) → bs ≡ take k All → b ≡ truth_of Own (part_at plan columns k) bs (get_or (nodes_of plan) k blank) → bs ++ (b ∷ []) ≡ take (k + 1) All
   unfolding step

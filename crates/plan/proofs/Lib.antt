@@ -5,6 +5,7 @@ pub mod Past
 pub mod Standing
 pub mod Grown
 pub mod Measures
+pub mod Writes
 pub mod Offsetting
 pub mod Stepping
 pub mod Asked

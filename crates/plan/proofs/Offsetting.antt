@@ -1,12 +1,13 @@
 -- The offsets, from the last node down.
 use Rattle.std.proofs.Common.{◌≡◌, ℕ, ◌+◌, ◌-◌, ◌<◌, ◌≤◌, true, false, cond, eqb, List, length, get_or, take, set, sum_by, sym, refl, ap, ◌∙◌, subst, inl, inr, arith, length-set, length-take-le, get_or-set_other, get_or-take, get_or-set_same}
 use Rattle.std.proofs.lemmas.List.Sums.{sum_by_more, sum_by-take-le, get_or-le-sum_by}
-use Rattle.std.proofs.lemmas.Bool.{eq-eqb, ne_eqb, eqb-true, leb-false, and_parts, not-false, cases_lt, cases_eq}
+use Rattle.std.proofs.lemmas.Bool.{eq-eqb, ne_eqb, eqb-true, leb-false, and_parts, and_from, not-false, cases_lt, cases_eq}
 use Rattle.plan.specs.Answers.{width_by}
 use Rattle.plan.specs.Filling.{Earlier, alike, stray_at}
 use Rattle.plan.specs.Nodes.{blank, late, namings}
 use Rattle.plan.specs.Parts.{Measured, right_start, passes, Roomy}
 use Rattle.store.specs.declared.comparison.Comparison.{Comparison}
+use Rattle.plan.specs.declared.node.Field.{Field}
 use Rattle.plan.specs.declared.node.Op.{Op}
 use Rattle.plan.specs.declared.node.Op.TheVariants.{Product, Union, Difference}
 use Rattle.plan.specs.declared.node.Node.{Node}
@@ -38,6 +39,12 @@ passes_to ws os o (Choice node comparison) h = eqb-true (get_or os node 0) o h
 passes_to ws os o (Pair op left right) h =
     let (a, b) = and_parts (eqb (get_or os left 0) o) (eqb (get_or os right 0) (right_start op o (get_or ws left 0))) h in
     (eqb-true (get_or os left 0) o a, eqb-true (get_or os right 0) (right_start op o (get_or ws left 0)) b)
+
+pub passes_from : (ws os : List ℕ) (o : ℕ) (n : Node) → Passes ws os o n → passes ws os o n ≡ true
+passes_from ws os o (Leaf relation arity fields) h = refl
+passes_from ws os o (Choice node comparison) h = eq-eqb (get_or os node 0) o h
+passes_from ws os o (Pair op left right) (a, b) =
+    and_from (eqb (get_or os left 0) o) (eqb (get_or os right 0) (right_start op o (get_or ws left 0))) (eq-eqb (get_or os left 0) o a) (eq-eqb (get_or os right 0) (right_start op o (get_or ws left 0)) b)
 
 -- whether a node passes its offset on is about the nodes that it names alone
 passes_kept : (ws os ps : List ℕ) (o : ℕ) (n : Node) → ((c : ℕ) → 0 < namings c n → get_or ps c 0 ≡ get_or os c 0) → Passes ws os o n → Passes ws ps o n
@@ -101,6 +108,9 @@ module _ (nodes : List Node) (early : Earlier nodes) (once : (c : ℕ) → c < l
   ]
 
   module _ (k : ℕ) (within : k < length nodes) (os : List ℕ) (inv : Inv nodes ws (k + 1) os) where
+    pub leaf_step : (relation arity : ℕ) (fields : List Field) → get_or nodes k blank ≡ Leaf relation arity fields → Inv nodes ws k os
+    leaf_step relation arity fields e = stepped k within os os (λ c _. refl) (subst (Passes ws os (get_or os k 0)) (sym e) tt) inv.1 inv.3 inv
+
     pub choice_step : (m : ℕ) (comparison : Comparison ℕ) → get_or nodes k blank ≡ Choice m comparison → Inv nodes ws k (set os m (get_or os k 0))
     choice_step m comparison e =
         let o : ℕ = get_or os k 0 in

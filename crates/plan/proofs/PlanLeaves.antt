@@ -56,12 +56,12 @@ module _ (plan : Plan) where
   leaf_listed leaves e i d h = subst (λ ls. LeafIn plan (get_or ls i d)) (sym e) (leaf_at i d (omega (arith, ap length e)))
 
   -- a leaf that was read by its number is one of the plan's
-  pub leaf_read : (i : ℕ) (leaf : PlanLeaf) → slice_get (leaves_of (nodes_of plan)) i ≡ Some leaf → LeafIn plan leaf
+  pub leaf_read : (i : ℕ) (leaf : PlanLeaf) → slice_get (leaves_of (nodes_of plan)) i ≡ Some leaf → (i < length (leaves_of (nodes_of plan))) × LeafIn plan leaf
   leaf_read i leaf e = elim (cases_lt i (length (leaves_of (nodes_of plan)))) [
     | inl h ↦
         let f : Some (get_or (leaves_of (nodes_of plan)) i leaf) ≡ Some leaf = sym (slice_get-get_or (leaves_of (nodes_of plan)) i leaf h) ∙ e in
         let same : get_or (leaves_of (nodes_of plan)) i leaf ≡ leaf = cc in
-        subst (LeafIn plan) same (leaf_at i leaf h)
+        (h, subst (LeafIn plan) same (leaf_at i leaf h))
     | inr h ↦ absurd (let f : ◌≡◌ {A = Option PlanLeaf} None (Some leaf) = sym (slice_get_past (leaves_of (nodes_of plan)) i h) ∙ e in let z : ◌≡◌ {A = ℕ} 0 1 = cc in omega arith)
   ]
 

@@ -1,5 +1,5 @@
 -- Lists in which no two elements are the same.
-use Rattle.std.proofs.Common.{◌≡◌, suc, ◌≤◌, Bool, true, false, cond, not, ◌⊎◌, List, [], ◌∷◌, length, filter, sym, refl, ap, ◌∙◌, subst, inl, inr, arith}
+use Rattle.std.proofs.Common.{◌≡◌, suc, ◌≤◌, Bool, true, false, cond, not, ◌⊎◌, List, [], ◌∷◌, ◌++◌, length, filter, sym, refl, ap, ◌∙◌, subst, inl, inr, arith}
 use mathlib.Core.List.Memᴰ
 use mathlib.Core.List.{Memᴰ}
 use Rattle.std.proofs.lemmas.Bool.{both_ways, and_parts, and_from, not-true, not_from_false}
@@ -19,6 +19,19 @@ module _ {A : Type 0} (same : A → A → Bool) where
   pub apart_put : (x : A) (xs : List A) → ((y : A) → Memᴰ y xs → same x y ≡ true → ⊥) → distinct same xs ≡ true → distinct same (x ∷ xs) ≡ true
   apart_put x xs free h = and_from (not (any (same x) xs)) (distinct same xs)
       (not_from_false (any (same x) xs) (from_not (any (same x) xs) (λ e. let (y, m, k) = any_pick (same x) xs e in free y m k))) h
+
+  -- one more, wherever it is entered
+  pub apart_entered : ((x y : A) → same x y ≡ same y x) → (c : A) (xs ys : List A) → ((y : A) → Memᴰ y (xs ++ ys) → same c y ≡ true → ⊥) → distinct same (xs ++ ys) ≡ true → distinct same (xs ++ (c ∷ ys)) ≡ true
+  apart_entered turn c [] ys free h = apart_put c ys free h
+  apart_entered turn c (x ∷ xs) ys free h = apart_put x (xs ++ (c ∷ ys))
+      (λ y m e. elim (Memᴰ.append_cases xs m) [
+        | inl n ↦ apart_first x (xs ++ ys) h (Memᴰ.append_left ys n) e
+        | inr n ↦ elim (Memᴰ.cases_cons n) [
+          | inl s ↦ free x (Memᴰ.head refl) (turn c x ∙ subst (λ z. same x z ≡ true) s e)
+          | inr i ↦ apart_first x (xs ++ ys) h (Memᴰ.append_right xs i) e
+        ]
+      ])
+      (apart_entered turn c xs ys (λ y m. free y (Memᴰ.tail m)) (apart_rest x (xs ++ ys) h))
 
   pub apart_kept : (test : A → Bool) (xs : List A) → distinct same xs ≡ true → distinct same (filter test xs) ≡ true
   apart_kept test [] h = refl

@@ -2,7 +2,7 @@
 use Rattle.std.proofs.Common.{◌≡◌, ℕ, ◌+◌, ◌<◌, Bool, true, false, ◌||◌, ltb, List, [], ◌∷◌, length, get_or, Option, sym, refl, ap, ◌∙◌, subst, inl, inr, arith}
 use Rattle.std.specs.Ordering.{is_lt}
 use Rattle.std.proofs.lemmas.List.{length-map}
-use Rattle.std.proofs.lemmas.Bool.{true≢false, and_parts, and_from, or_right, le-leb}
+use Rattle.std.proofs.lemmas.Bool.{true≢false, both_ways, and_parts, and_from, or_right, le-leb}
 use Rattle.std.proofs.lemmas.Cmp.{on_total, nat_list_cmp_total, tied_itself}
 use Rattle.ordered.specs.Columnwise.{columnwise}
 use Rattle.ordered.specs.Lists.{items_in}
@@ -24,6 +24,7 @@ use Rattle.rules.specs.declared.list.Conflicts.{Conflicts}
 use Rattle.rules.proofs.Apart.{apart_put}
 use Rattle.rules.proofs.Counting.{counted, one_too_many}
 use Rattle.ordered.proofs.Fews.{items_few}
+use Rattle.rules.proofs.OnePlace.{conflict_parts}
 use Rattle.rules.proofs.Rounds.{enters, round, round_starts, gives_up, up_to_is}
 
 -- conflicts in order of their places have no places twice
@@ -39,6 +40,10 @@ rises_once (c ∷ l) up = apart_put same_places c l
 -- two lists of the same conflicts, both in order, are the same
 pub lists_same : (test : Listed → Bool) (a b : List Listed) → rises by_places a ≡ true → rises by_places b ≡ true → Lists test a → Lists test b → a ≡ b
 lists_same test a b up vp la lb = same_members (on_total (λ (c : Listed). c.places) nat_list_cmp_total) a b up vp (λ c m. lb.full c (la.right c m)) (λ c m. la.full c (lb.right c m))
+
+-- without rules there are no conflicts to list
+pub lists_none : (table : List (Option Row)) → Lists (is_conflict table []) []
+lists_none table = record { right = λ c m. elim m [ ]; full = λ c h. absurd (both_ways false refl (conflict_parts table [] c h).2); once = refl }
 
 -- conflicts that are all listed are at most 1,024
 pub fits_list : (table : List (Option Row)) → OnceIn table → (rules : List Denial) (l : Conflicts) → Lists (is_conflict table rules) (listing l) → AtMost 1024 (rows_of table) rules

@@ -20,6 +20,7 @@ pub mod Naming
 pub mod Keeping
 pub mod Completing
 pub mod Emptied
+pub mod Sizes
 -- For the proofs of this crate alone:
 mod Failing
 mod Fews

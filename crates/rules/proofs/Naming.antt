@@ -1,5 +1,6 @@
 -- What comparisons name: columns of a row, and atoms of their rule.
-use Rattle.std.proofs.Common.{◌≡◌, ℕ, ◌<◌, ◌≤◌, true, ltb, List, [], ◌∷◌, map, length, get_or, sym, refl, ap, ◌∙◌, arith}
+use Rattle.std.proofs.Common.{◌≡◌, ℕ, ◌<◌, ◌≤◌, true, ltb, List, [], ◌∷◌, map, length, get_or, sym, refl, ap, ◌∙◌, subst, arith}
+use mathlib.Core.List.Memᴰ
 use Rattle.std.proofs.lemmas.List.{get_or-map, length-map}
 use Rattle.std.proofs.lemmas.Bool.{and_parts, and_from, ltb-true, lt-ltb}
 use Rattle.std.proofs.lemmas.List.Sums.{AllPass-from_list_all}
@@ -13,7 +14,8 @@ use Rattle.rules.specs.Beginnings.{rows_of_picks}
 use Rattle.rules.specs.declared.chosen.Pick.{Pick}
 use Rattle.rules.specs.Comparisons.{column_within, within, side_atom, last_atom}
 use Rattle.rules.specs.Refusals.{column_named, names}
-use Rattle.rules.specs.Rules.{denial}
+use Rattle.rules.specs.Laws.{HasAtoms}
+use Rattle.rules.specs.Rules.{Denial, denial}
 use Rattle.rules.specs.declared.rule.AtomColumn.{AtomColumn}
 use Rattle.rules.specs.declared.rule.Rule.{Rule}
 use Rattle.ordered.proofs.Fews.{items_few}
@@ -71,3 +73,7 @@ chosen_columns picks atom d lt =
 -- a rule as it is meant, among others
 pub rule_at : (rules : List Rule) (k : ℕ) (rule : Rule) → k < length rules → rule ≡ get_or rules k rule → get_or (map denial rules) k (denial rule) ≡ denial rule
 rule_at rules k rule lt is = get_or-map denial rules k rule (denial rule) lt ∙ ap denial (sym is)
+
+-- each of some rules has an atom
+pub has_atoms : (rules : List Rule) → HasAtoms (map denial rules)
+has_atoms rules d m = let (r, i, e) = Memᴰ.of_map denial rules m in subst (λ (x : Denial). 0 < length x.atoms) e r.some

@@ -9,7 +9,7 @@ use Rattle.store.proofs.Tests.{from_not, same_tests, any_pick, any_put, all_at}
 use Rattle.rules.specs.Sets.{among}
 use Rattle.rules.specs.Rules.{Denial, conflicts}
 use Rattle.store.specs.Held.{given}
-use Rattle.rules.specs.Listing.{rows_at, is_held, ascending, forbids, first_is, Listed, is_conflict, touches, AlikeBut}
+use Rattle.rules.specs.Listing.{rows_at, is_held, ascending, forbids, first_is, Listed, is_conflict, touches, AlikeBut, Lists}
 use Rattle.rules.specs.Choosing.{up_to}
 use Rattle.rules.specs.Laws.{OnePlaceLess, Strikes, PutStarts, PutUndone}
 use Rattle.rules.proofs.Listings.{lists_like, lists_kept, lists_narrowed}
@@ -63,6 +63,17 @@ one_place_less less more p alike none rules c = same_tests (is_conflict less rul
     and_from (is_conflict more rules c) (not (touches p c)) (apart less more p alike none rules c t ∙ h) (not_from_false (touches p c) t))
     (λ h. let (k, n) = and_parts (is_conflict more rules c) (not (touches p c)) h in
     sym (apart less more p alike none rules c (not-true (touches p c) n)) ∙ k)
+
+-- a list of the conflicts without the row at p is one of those with it that do not touch p, and the other way round
+pub place_known : (less more : List (Option Row)) (p : ℕ) → AlikeBut p more less → get_or less p None ≡ None → (rules : List Denial) (listed : List Listed) →
+    Lists (is_conflict less rules) listed → Lists (λ c. is_conflict more rules c && not (touches p c)) listed
+place_known less more p alike none rules listed ls =
+    lists_like (is_conflict less rules) (λ c. is_conflict more rules c && not (touches p c)) (one_place_less less more p alike none rules) listed ls
+
+pub place_back : (less more : List (Option Row)) (p : ℕ) → AlikeBut p more less → get_or less p None ≡ None → (rules : List Denial) (listed : List Listed) →
+    Lists (λ c. is_conflict more rules c && not (touches p c)) listed → Lists (is_conflict less rules) listed
+place_back less more p alike none rules listed ls =
+    lists_like (λ c. is_conflict more rules c && not (touches p c)) (is_conflict less rules) (λ c. sym (one_place_less less more p alike none rules c)) listed ls
 
 pub strikes : Strikes
 strikes less more p alike none rules listed ls =

@@ -1,21 +1,24 @@
 -- A search that goes through the rules in turn, and enters the places of each choice that breaks the rule.
-use Rattle.std.proofs.Common.{◌≡◌, ℕ, ◌+◌, ◌<◌, ◌≤◌, Bool, true, false, ◌||◌, ltb, List, [], get_or, None, Option, sym, refl, subst, inl, inr, arith}
+use Rattle.std.proofs.Common.{◌≡◌, ℕ, ◌+◌, ◌<◌, ◌≤◌, Bool, true, false, ◌||◌, ltb, List, [], ◌∷◌, ◌++◌, length, get_or, None, Option, sym, refl, subst, inl, inr, arith}
 use mathlib.Core.List.{Memᴰ}
 use Rattle.std.proofs.lemmas.Bool.{both_ways, and_parts, and_from, or_cases, or_left, or_right, cases_Bool, cases_lt, lt-ltb, ltb-true}
 use Rattle.std.proofs.lemmas.Bool.Decides.{nat_tests}
 use Rattle.std.proofs.lemmas.List.Folds.{list_any_at}
 use Rattle.store.specs.Lists.{all}
+use Rattle.store.specs.Places.{OnceIn}
 use Rattle.store.specs.declared.row.Row.{Row}
 use Rattle.store.proofs.Tests.{same_tests, all_at, all_put}
-use Rattle.rules.specs.Rules.{Denial}
-use Rattle.rules.specs.Listing.{Listed, is_held, forbids, first_is, is_conflict}
-use Rattle.rules.specs.Choosing.{SameSet, Between, up_to}
+use Rattle.rules.specs.Rules.{Denial, AtMost}
+use Rattle.store.specs.Held.{rows_of}
+use Rattle.rules.specs.Listing.{Listed, is_held, ascending, forbids, first_is, is_conflict}
+use Rattle.rules.specs.Choosing.{SameSet, Choice, Between, up_to}
 use Rattle.rules.specs.Laws.{RoundStarts, Enters, Round, RoundEnds}
 use Rattle.rules.proofs.Ascents.{member_of, one_order}
 use Rattle.rules.proofs.Firsts.{first_put, first_at, first_least, first_one}
-use Rattle.rules.proofs.Listings.{lists_like}
+use Rattle.rules.proofs.Listings.{lists_like, between_entered}
 use Rattle.rules.proofs.OnePlace.{conflict_parts, conflict_from}
 use Rattle.rules.proofs.Choosing.{choice_forbids, find_choice}
+use Rattle.rules.proofs.Counting.{one_too_many}
 
 -- a conflict that one of the first k rules makes
 made : (table : List (Option Row)) (rules : List Denial) (known : List ℕ → Bool) (k : ℕ) (c : Listed) → is_conflict table rules c ≡ true → c.rule < k → up_to table rules known k c ≡ true
@@ -56,13 +59,22 @@ enters table rules known k listed full lt other chosen places c up same fresh fr
           made table rules known (k + 1) (record { places = places; rule = k }) (subst (λ x. is_conflict table rules (record { places = places; rule = x }) ≡ true) e is) (omega arith)
     ]
 
--- a search that is given up on its way
+-- what a search does on its way: enter the places of a choice, find that no more fit, or give up
 module _ (table : List (Option Row)) (rules : List Denial) (known : List ℕ → Bool) (k : ℕ) where
   abbrev OnWay : List Listed → Type 0
   OnWay listed = Between (up_to table rules known k) (up_to table rules known (k + 1)) listed
 
   pub gives_up : (listed : List Listed) → OnWay listed → Between (up_to table rules known k) (is_conflict table rules) listed
   gives_up listed so = record { right = λ c m. up_to_is table rules known (k + 1) c (so.right c m); full = so.full; once = so.once }
+
+  module _ (lt : k < length rules) (other : Denial) (chosen places : List ℕ) (c : Choice table (get_or rules k other) chosen) (up : ascending places ≡ true) (same : SameSet chosen places) (fresh : known places ≡ false) where
+    pub goes_on : (xs ys : List Listed) → OnWay (xs ++ ys) → ((b : Listed) → Memᴰ b (xs ++ ys) → b.places ≡ places → ⊥) → OnWay (xs ++ (record { places = places; rule = k } ∷ ys))
+    goes_on xs ys so free = between_entered (up_to table rules known k) (up_to table rules known (k + 1)) (record { places = places; rule = k }) xs ys so
+        (enters table rules known k (xs ++ ys) so.full lt other chosen places c up same fresh free) free
+
+    pub stops : OnceIn table → (listed : List Listed) → OnWay listed → ((b : Listed) → Memᴰ b listed → b.places ≡ places → ⊥) → AtMost (length listed) (rows_of table) rules → ⊥
+    stops once listed so free = let is = enters table rules known k listed so.full lt other chosen places c up same fresh free in
+        one_too_many table once rules listed (gives_up listed so).right so.once (record { places = places; rule = k }) (up_to_is table rules known (k + 1) (record { places = places; rule = k }) is) free
 
 pub round : Round
 round table once rules known k listed so other new = record { right = so.right; once = so.once; full = full }

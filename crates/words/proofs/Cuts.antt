@@ -1,8 +1,9 @@
 -- Laws of cutting: what the parts of a text are, how many, and where they stand.
-use Rattle.std.proofs.Common.{◌≡◌, ℕ, zero, suc, ◌+◌, ◌<◌, Bool, true, false, cond, not, List, [], ◌∷◌, length, get_or, take, drop, count_by, sym, refl, ap, ◌∙◌, add-one, arith}
+use Rattle.std.proofs.Common.{◌≡◌, ℕ, zero, suc, ◌+◌, ◌<◌, Bool, true, false, cond, not, List, [], ◌∷◌, ◌++◌, length, get_or, take, drop, count_by, sym, refl, ap, ◌∙◌, add-one, arith}
 use Rattle.std.specs.List.{AllByRecursion as All}
 use Rattle.std.proofs.lemmas.List.{drop-drop}
 use Rattle.std.proofs.lemmas.List.Sums.{sum_by-cons}
+use Rattle.std.proofs.lemmas.Bool.{and_parts, not-true}
 use Rattle.words.specs.declared.separators.Separator.{Separator}
 use Rattle.words.specs.Language.{every, separates, cut, longer, Placed, placed, parts_of, texts}
 use Rattle.words.specs.Meaning.{Free}
@@ -33,6 +34,13 @@ module _ (sep : ℕ → Bool) where
   cut_at (b ∷ bs) zero h is free = cut_here b bs is
   cut_at (b ∷ bs) (suc i) h is free =
       cut_on b bs (free 0 (omega arith)) ∙ ap (longer b) (cut_at bs i (omega arith) is (free_rest b bs i free)) ∙ rw (add-one, add-one) refl
+
+  -- the same of a text that is put together
+  pub cut_one : (front : List ℕ) (b : ℕ) (rest : List ℕ) → every (λ x. not (sep x)) front ≡ true → sep b ≡ true → cut sep (front ++ (b ∷ rest)) ≡ front ∷ cut sep rest
+  cut_one [] b rest free is = cut_here b rest is
+  cut_one (x ∷ front) b rest free is =
+      let parts = and_parts (not (sep x)) _ free in
+      cut_on x _ (not-true _ parts.0) ∙ ap (longer x) (cut_one front b rest parts.1 is)
 
   length_more : (b : ℕ) (ps : List (List ℕ)) (n : ℕ) (t : Bool) → length ps ≡ n + 1 → length (cond t ([] ∷ ps) (longer b ps)) ≡ cond t 1 0 + n + 1
   length_more b [] n t e = absurd (omega arith)

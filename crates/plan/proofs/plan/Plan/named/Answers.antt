@@ -11,10 +11,10 @@ use Rattle.plan.proofs.PlanLeaves.{leaf_read, leaf_width}
 use Rattle.plan.proofs.plan.Plan.named.Goals as goal
 
 pub row_at-requires-clause-within : goal.row_at-requires-clause-within
-row_at-requires-clause-within c = (leaf_read c.args.self.now c.args.number _ (sym c.in_ok-leaf.ensures)).within
+row_at-requires-clause-within c = (leaf_read c.args.self.now c.args.number _ (sym c.in_ok-leaf.ensures)).1.within
 
 pub row_at-requires-clause-wide : goal.row_at-requires-clause-wide
-row_at-requires-clause-wide c = leaf_width c.args.self.now c.in_ok-leaf.field-0 (leaf_read c.args.self.now c.args.number _ (sym c.in_ok-leaf.ensures))
+row_at-requires-clause-wide c = leaf_width c.args.self.now c.in_ok-leaf.field-0 (leaf_read c.args.self.now c.args.number _ (sym c.in_ok-leaf.ensures)).1
 
 pub returns : goal.returns
 returns c =
