@@ -2,6 +2,7 @@ pub mod Tests
 pub mod Handed
 pub mod Alike
 pub mod Places
+pub mod Arities
 pub mod Asked
 pub mod HeldRows
 pub mod Firsts

@@ -76,6 +76,12 @@ admission arity row held empty =
     (ask (not held) AlreadyHeld
     (ask empty NoEmptyPlace None)))
 
+-- the first two of them, of the arity and the row alone
+abbrev pub sight_refusal : ℕ → Row → Option Refusal
+sight_refusal arity row =
+    ask (nat_lt 0 arity) Undeclared
+    (ask (zero_from arity row.columns) Unfit None)
+
 -- a row that they let in gets the empty place that was found
 abbrev pub PlaceSays : ℕ → Row → Option ℕ → Option ℕ → Result ℕ Refusal → Type 0
 PlaceSays arity row held vacant (Ok p) = (admission arity row (is_some held) (is_some vacant) ≡ None) × (vacant ≡ Some p)

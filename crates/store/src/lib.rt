@@ -13,7 +13,7 @@ mod sign;
 mod source;
 mod table;
 
-pub use admission::place_for;
+pub use admission::{admit, place_for};
 pub use arity::{arity_in, declared, zero_from};
 pub use comparison::{Comparison, Side};
 pub use refusal::Refusal;

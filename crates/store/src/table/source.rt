@@ -5,7 +5,7 @@ ghost use Rattle.store.specs.Rows.{arity_in};
 ghost use Rattle.store.specs.Tables.{table_model, VacantSays};
 
 use super::Table;
-use crate::admission::place_for;
+use crate::admission::{admit, place_for};
 use crate::arity::{arity_in, declared};
 use crate::refusal::Refusal;
 use crate::row::Row;
@@ -29,6 +29,16 @@ fn vacant(cells: &[Option<Row>; 64]) -> Option<usize>
     ensures { VacantSays cells.now result }
 {
     cells.iter().position(|cell| cell.is_none())
+}
+
+// An empty place for a row, if it is not held; for one that is held none is looked for.
+fn vacant_for(cells: &[Option<Row>; 64], held: Option<usize>) -> Option<usize>
+    ensures { held ≡ None → VacantSays cells.now result }
+{
+    if held.is_some() {
+        return None;
+    }
+    vacant(cells)
 }
 
 impl Source for Table {
@@ -58,7 +68,9 @@ impl Source for Table {
     // holder of a source could write past the questions.
     fn put(&mut self, row: &Row) -> Result<usize, Refusal> {
         let arity = self.arity(row.relation);
-        let place = place_for(arity, row, self.find(row), vacant(&self.cells))?;
+        admit(arity, row)?;
+        let held = self.find(row);
+        let place = place_for(arity, row, held, vacant_for(&self.cells, held))?;
         self.cells[place] = Some(*row);
         Ok(place)
     }
