@@ -1,7 +1,7 @@
 // A record of a page: 20 bytes that hold a row or nothing.
-ghost use Rattle.std.specs.Prelude.{◌≡◌};
+ghost use Rattle.std.specs.Prelude.{◌≡◌, ◌<◌};
 ghost use Rattle.page.specs.Pages.{records_of};
-ghost use Rattle.page.specs.Records.{marks_row, is_marked, place_of};
+ghost use Rattle.page.specs.Records.{marks_row, is_marked, four_at, place_of};
 
 use std::array;
 use store::Row;
@@ -33,6 +33,19 @@ pub fn is_marked(record: &Record) -> bool
     ensures { result ≡ is_marked «record».now }
 {
     is_row(record) || record.starts_with(&EMPTY)
+}
+
+// The number in the four bytes of a record from here on.
+pub fn column_at(record: &Record, start: usize) -> u32
+    requires { start < 17 }
+    ensures { result ≡ four_at «record».now start }
+{
+    u32::from_be_bytes([
+        record[start],
+        record[start + 1],
+        record[start + 2],
+        record[start + 3],
+    ])
 }
 
 // What stands at the record's place.

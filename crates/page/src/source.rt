@@ -9,7 +9,7 @@ ghost use Rattle.page.specs.Pages.{store_of, places_of, page_of};
 use crate::checking::check;
 use crate::encoding::{encode_row, write_place};
 use crate::record::{decode, is_row, records_in};
-use store::{Refusal, Row, Source, arity_in, declared, place_for};
+use store::{Refusal, Row, Source, admit, arity_in, declared, place_for};
 
 #[derive(Drop)]
 pub struct Page<'a> {
@@ -49,6 +49,16 @@ impl<'a> Page<'a> {
             .iter()
             .position(|record| !is_row(record))
     }
+
+    // An empty place for a row, if it is not held; for one that is held none is looked for.
+    fn vacant_for(&self, held: Option<usize>) -> Option<usize>
+        ensures { held ≡ None → VacantSays (page_model self.now).places result }
+    {
+        if held.is_some() {
+            return None;
+        }
+        self.vacant()
+    }
 }
 
 impl<'a> Source for Page<'a> {
@@ -84,7 +94,9 @@ impl<'a> Source for Page<'a> {
     // holder of a source could write past the questions.
     fn put(&mut self, row: &Row) -> Result<usize, Refusal> {
         let arity = self.arity(row.relation);
-        let place = place_for(arity, row, self.find(row), self.vacant())?;
+        admit(arity, row)?;
+        let held = self.find(row);
+        let place = place_for(arity, row, held, self.vacant_for(held))?;
         write_place(self.bytes, place, Some(*row));
         Ok(place)
     }
