@@ -1,16 +1,23 @@
--- Digits are a text, and the library reads it.
-use Rattle.std.proofs.Common.{rules, arith}
-use Rattle.std.proofs.lemmas.Bool.Decides.{nat_tests}
+-- A number has 1 to 10 bytes, each of them a digit, and a value below the limit.
+use Rattle.std.proofs.Common.{sym, rules}
 use Rattle.words.specs.Language.{number_of}
-use Rattle.words.proofs.Digits.{is_text, read}
+use Rattle.words.proofs.Digits.{one_more, spoilt, small_enough, too_large}
 use Rattle.words.proofs.numbers.number.Goals as goal
 
-pub returns-then-not-are_digits : goal.returns-then-not-are_digits
+pub returns-then-is_empty : goal.returns-then-is_empty
 unfolding number_of
-returns-then-not-are_digits c = grind (arith, nat_tests)
+returns-then-is_empty c = search rules
 
-pub returns-in_err-ok : goal.returns-in_err-ok
-returns-in_err-ok c = search (rules, is_text)
+pub returns-then-not-is_ascii_digit : goal.returns-then-not-is_ascii_digit
+returns-then-not-is_ascii_digit c = spoilt _ _ _ c.loop-byte.invariant c.loop-byte-test.true (sym c.if-not-is_ascii_digit.ensures.value)
 
-pub returns : goal.returns
-returns c = search (rules, read)
+pub loop-byte-preserved : goal.loop-byte-preserved
+loop-byte-preserved c = one_more _ _ _ c.loop-byte.invariant c.loop-byte-test.true (sym c.if-not-is_ascii_digit.ensures.value)
+
+pub returns-then-value-lt-LIMIT : goal.returns-then-value-lt-LIMIT
+returns-then-value-lt-LIMIT c =
+    small_enough _ _ _ c.loop-byte.invariant c.loop-byte-test.false c.if-is_empty.ensures c.if-text-gt-MOST_DIGITS.false c.if-value-lt-LIMIT.true
+
+pub returns-else-value-lt-LIMIT : goal.returns-else-value-lt-LIMIT
+returns-else-value-lt-LIMIT c =
+    too_large _ _ _ c.loop-byte.invariant c.loop-byte-test.false c.if-is_empty.ensures c.if-text-gt-MOST_DIGITS.false c.if-value-lt-LIMIT.false
