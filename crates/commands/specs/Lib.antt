@@ -5,6 +5,7 @@ pub mod Rows
 pub mod Comparisons
 pub mod Rules
 pub mod Rooms
+pub mod PlanWords
 pub mod Tasks
 pub mod Lines
 pub mod Leaves

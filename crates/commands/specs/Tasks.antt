@@ -1,10 +1,9 @@
 -- What is to be done, in lists of any length.
 use Rattle.std.specs.Prelude.{ℕ, List}
-use Rattle.ordered.specs.Lists.{items_in}
 use Rattle.store.specs.declared.row.Row.{Row}
 use Rattle.rules.specs.Rules.{Denial}
 use Rattle.plan.specs.declared.node.Node.{Node}
-use Rattle.commands.specs.Postfixes.{asked}
+use Rattle.commands.specs.PlanWords.{nodes_in_words, verdict_in_words}
 use Rattle.commands.specs.Rules.{written}
 use Rattle.commands.specs.declared.command.Command.{Command}
 use Rattle.commands.specs.declared.command.Command.TheVariants.{Enter, Strike, Rule, Verdict, Sheet, Conflicts}
@@ -23,6 +22,6 @@ abbrev pub task_of : Command → Task
 task_of (Enter row) = enter row
 task_of (Strike row) = strike row
 task_of (Rule text) = rule (written text)
-task_of (Verdict text) = verdict (asked text)
-task_of (Sheet nodes) = sheet (items_in nodes)
+task_of (Verdict words) = verdict (verdict_in_words words)
+task_of (Sheet words) = sheet (nodes_in_words words)
 task_of Conflicts = conflicts

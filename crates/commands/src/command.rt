@@ -1,8 +1,6 @@
 // What a line commands.
+use crate::plan_words::PlanWords;
 use crate::rule::RuleText;
-use crate::verdicts::VerdictText;
-use ordered::Few;
-use plan::Node;
 use store::Row;
 
 #[derive(Clone, Copy)]
@@ -10,8 +8,9 @@ pub enum Command {
     Enter(Row),
     Strike(Row),
     Rule(RuleText),
-    Verdict(VerdictText),
-    // The nodes of the plan, of which nothing is asked yet.
-    Sheet(Few<Node, 100>),
+    // The words of a plan, a slash and columns.
+    Verdict(PlanWords),
+    // The words of a plan.
+    Sheet(PlanWords),
     Conflicts,
 }

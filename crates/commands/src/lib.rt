@@ -7,6 +7,7 @@
 mod command;
 mod laws;
 mod parsing;
+mod plan_words;
 mod postfix;
 mod refusal;
 mod rule;
@@ -16,6 +17,7 @@ mod verdicts;
 pub use command::Command;
 pub use laws::nodes_in_order;
 pub use parsing::{parse, plan_from, verdict_from};
+pub use plan_words::PlanWords;
 pub use refusal::Refusal;
 pub use rule::RuleText;
 pub use verdicts::VerdictText;

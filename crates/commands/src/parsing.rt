@@ -7,8 +7,10 @@ ghost use Rattle.words.specs.Meaning.{to_come};
 ghost use Rattle.commands.specs.Lines.{words_of, verb_in, has_form, alone, task_from, ParseSays};
 ghost use Rattle.commands.specs.Tasks.{conflicts, task_of};
 ghost use Rattle.commands.specs.Rooms.{room};
+ghost use Rattle.commands.specs.declared.verb.Verb.TheVariants.{Verdict, Sheet};
 
 use crate::command::Command;
+use crate::plan_words::PlanWords;
 use crate::refusal::Refusal;
 use crate::verb::Verb;
 pub use plans::{plan_from, verdict_from};
@@ -36,7 +38,7 @@ pub fn parse(line: &[u8]) -> Result<Command, Refusal>
     if !have_forms(further(line)) {
         return Err(Refusal::UnknownWord);
     }
-    command_of(verb, further(line)).ok_or(Refusal::Misplaced)
+    command_of(verb, line).ok_or(Refusal::Misplaced)
 }
 
 // What the first word of a line commands, if it is known.
@@ -48,7 +50,7 @@ fn verb_in(line: &[u8]) -> Option<Verb>
 }
 
 // The words of a line behind its first.
-fn further(line: &[u8]) -> Parts<'_>
+pub(crate) fn further(line: &[u8]) -> Parts<'_>
     ensures words { texts (to_come result) ≡ drop 1 (words_of line.now) }
     ensures inside { room (texts (to_come result)) ≤ length line.now }
 {
@@ -64,17 +66,36 @@ fn have_forms(mut words: Parts<'_>) -> bool
     words.all(|part| word(part).is_some())
 }
 
-// What the verb and the words behind it command.
-fn command_of(verb: Verb, mut words: Parts<'_>) -> Option<Command>
-    requires { room (texts (to_come words)) ≤ 200 }
-    ensures { option_map task_of result ≡ task_from verb (texts (to_come words.entry)) }
+// The command for a verdict, if the words behind the first ask for one; the like for a sheet. What they read is room that only a
+// function of its own is to pay for: each line goes through `command_of`.
+fn verdict_of(line: &[u8]) -> Option<Command>
+    requires { length line.now ≤ 200 }
+    ensures { option_map task_of result ≡ task_from Verdict (drop 1 (words_of line.now)) }
 {
+    let _ = verdict_from(further(line))?;
+    Some(Command::Verdict(PlanWords::of(line)))
+}
+
+fn sheet_of(line: &[u8]) -> Option<Command>
+    requires { length line.now ≤ 200 }
+    ensures { option_map task_of result ≡ task_from Sheet (drop 1 (words_of line.now)) }
+{
+    let _ = plan_from(further(line))?;
+    Some(Command::Sheet(PlanWords::of(line)))
+}
+
+// What the verb and the words behind it command.
+fn command_of(verb: Verb, line: &[u8]) -> Option<Command>
+    requires { length line.now ≤ 200 }
+    ensures { option_map task_of result ≡ task_from verb (drop 1 (words_of line.now)) }
+{
+    let mut words = further(line);
     match verb {
         Verb::Enter => row_from(words).map(Command::Enter),
         Verb::Strike => row_from(words).map(Command::Strike),
         Verb::Rule => rule_from(words).map(Command::Rule),
-        Verb::Verdict => verdict_from(words).map(Command::Verdict),
-        Verb::Sheet => plan_from(words).map(Command::Sheet),
+        Verb::Verdict => verdict_of(line),
+        Verb::Sheet => sheet_of(line),
         // It stands alone on its line.
         Verb::Conflicts => words.next().is_none().then_some(Command::Conflicts),
     }

@@ -2,13 +2,14 @@
 ghost use Rattle.std.specs.Prelude.{◌≡◌, ℕ, [], replicate, None};
 ghost use Rattle.book.specs.Runs.{opened, opening, Life};
 ghost use Rattle.script.specs.Counters.{rink_arity, store_of, rules_in, Follows, Does, TellSays};
-ghost use Rattle.commands.specs.Tasks.{task_of};
+ghost use Rattle.commands.specs.PlanWords.{nodes_in_words, verdict_in_words};
+ghost use Rattle.commands.specs.Tasks.{task_of, verdict, sheet};
 
 use super::Counter;
 use crate::faults::Fault;
 use crate::reply::{Reply, Said};
 use book::Book;
-use commands::{Command, parse};
+use commands::{Command, PlanWords, parse};
 use plan::Line;
 use store::{Row, Table};
 use verdict::MARK_BYTES;
@@ -68,9 +69,25 @@ impl Counter {
             Command::Enter(row) => self.enter(row),
             Command::Strike(row) => self.strike(row),
             Command::Rule(text) => self.rule(text),
-            Command::Verdict(text) => self.judge(text.nodes.as_slice(), text.columns),
-            Command::Sheet(nodes) => self.list(nodes.as_slice()),
+            Command::Verdict(words) => self.judge_words(words),
+            Command::Sheet(words) => self.list_words(words),
             Command::Conflicts => Ok(Reply::Conflicts(self.book.conflicts())),
         }
+    }
+
+    // A verdict, and then a sheet, of the words of a plan, which are read here.
+    fn judge_words(&mut self, words: &PlanWords) -> Result<Reply, Fault>
+        ensures same { self.new.lines ≡ self.old.lines }
+        ensures says { Follows self.old self.new (verdict (verdict_in_words words.now)) result }
+    {
+        let text = words.verdict();
+        self.judge(text.nodes.as_slice(), text.columns)
+    }
+
+    fn list_words(&mut self, words: &PlanWords) -> Result<Reply, Fault>
+        ensures same { self.new.lines ≡ self.old.lines }
+        ensures says { Follows self.old self.new (sheet (nodes_in_words words.now)) result }
+    {
+        self.list(words.nodes().as_slice())
     }
 }
