@@ -5,6 +5,7 @@ ghost use Rattle.std.specs.Prelude.{◌≡◌, ◌+◌, ◌<◌, ◌≤◌, leng
 ghost use Rattle.std.specs.List.{insert};
 ghost use Rattle.ordered.specs.Promises.{Enters, Refuses};
 
+use crate::element::Ordered;
 use crate::lookup::find;
 
 // The item is not in the list, and there is no place left for it.
@@ -13,10 +14,10 @@ pub struct Full;
 
 // Enters `x` at its place among the first `count` items, which ascend, and tells how many they are then.
 // Where an equal item stands already, nothing is altered.
-pub fn enter<T: Ord + Copy>(items: &mut [T], count: usize, x: T) -> Result<usize, Full>
+pub fn enter<T: Ordered + Copy>(items: &mut [T], count: usize, x: T) -> Result<usize, Full>
     ensures { MatchResult result
-        (Enters T.cmp x (take count items.old) items.old items.new)
-        (λ _. Refuses T.cmp x (take count items.old) items.old items.new) }
+        (Enters T.order x (take count items.old) items.old items.new)
+        (λ _. Refuses T.order x (take count items.old) items.old items.new) }
 {
     let count = count.min(items.len());
     let Err(place) = find(items, count, &x) else {

@@ -1,6 +1,7 @@
 // A list of a few items, kept in the value itself.
 ghost use Rattle.std.specs.Prelude.{◌≡◌, ◌≤◌, ⊤, length};
 
+use crate::element::Ordered;
 use crate::entry::{Full, enter};
 use crate::removal::retain;
 use std::alloc::AllocError;
@@ -104,15 +105,15 @@ impl<T: Copy, const N: usize> Few<T, N> {
     }
 }
 
-impl<T: Ord + Copy, const N: usize> Few<T, N> {
+impl<T: Ordered + Copy, const N: usize> Few<T, N> {
     ghost use Rattle.std.specs.Prelude.{MatchResult};
     ghost use Rattle.ordered.specs.Lists.{items_in, Takes, Bars};
 
     // Enters an item at its place among these, which ascend; where an equal one stands already, they stay.
     pub fn enter(&mut self, x: T) -> Result<(), Full>
         ensures { MatchResult result
-            (λ _. Takes T.cmp x (items_in self.old) (items_in self.new))
-            (λ _. Bars T.cmp x (items_in self.old) (items_in self.new) N) }
+            (λ _. Takes T.order x (items_in self.old) (items_in self.new))
+            (λ _. Bars T.order x (items_in self.old) (items_in self.new) N) }
     {
         self.count = enter(&mut self.items, self.count, x)?;
         Ok(())

@@ -5,11 +5,13 @@
 // up by one place, and taking some out is one pass over the list.
 #![tactic(auto)]
 
+mod element;
 mod entry;
 mod few;
 mod lookup;
 mod removal;
 
+pub use element::Ordered;
 pub use entry::{Full, enter};
 pub use few::Few;
 pub use lookup::find;

@@ -4,20 +4,21 @@
 ghost use Rattle.std.specs.Prelude.{take, MatchResult};
 ghost use Rattle.ordered.specs.Promises.{Stands, Belongs};
 
+use crate::element::Ordered;
 use std::cmp::Ordering;
 
 // Where `x` stands among the first `count` items, which ascend, or else where it belongs.
 // By hand: the library's `binary_search` promises nothing of its `Err` unless the items ascend, and `Belongs` holds of any items.
-pub fn find<T: Ord>(items: &[T], count: usize, x: &T) -> Result<usize, usize>
+pub fn find<T: Ordered>(items: &[T], count: usize, x: &T) -> Result<usize, usize>
     ensures { MatchResult result
-        (Stands T.cmp (take count items.now) x.now)
-        (Belongs T.cmp (take count items.now) x.now) }
+        (Stands T.order (take count items.now) x.now)
+        (Belongs T.order (take count items.now) x.now) }
 {
     let mut low = 0;
     let mut high = count.min(items.len());
     while low < high {
         let mid = low + (high - low) / 2;
-        match items[mid].cmp(x) {
+        match items[mid].compare(x) {
             Ordering::Less => low = mid + 1,
             Ordering::Equal => return Ok(mid),
             Ordering::Greater => high = mid,

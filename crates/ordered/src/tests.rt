@@ -1,4 +1,8 @@
-// Lines of eight numbers in order: an example of each function.
+// Lines of eight numbers in order: an example of each function, and how a type is ordered by a key.
+ghost use Rattle.std.proofs.Common.{rules};
+ghost use Rattle.std.specs.Cmp.Rules.{comparing};
+ghost use Rattle.std.specs.Ordering.{nat_cmp, on};
+
 use super::*;
 use std::cmp::Ordering;
 
@@ -10,6 +14,23 @@ struct Line {
 fn line_of(first: u32, last: u32) -> Line {
     Line {
         columns: [first, 0, 0, 0, 0, 0, 0, last],
+    }
+}
+
+// Ordered by its number alone: two of one number belong at one place, and are not `==` where their notes differ.
+#[derive(Clone, Copy, PartialEq, Eq)]
+struct Noted {
+    number: u32,
+    note: u32,
+}
+
+impl Ordered for Noted {
+    ghost order = { on (λ n. n.number) nat_cmp };
+
+    ghost orderly = { Prim.search (comparing, rules) };
+
+    fn compare(&self, other: &Noted) -> Ordering {
+        self.number.cmp(&other.number)
     }
 }
 
@@ -28,6 +49,21 @@ fn two_places(rt: HostRuntime) {
         "there is no place left"
     );
     assert_eq!(rt; find(&lines, 2, &line_of(4, 0)), Err(1));
+}
+
+#[test]
+fn a_key_decides(rt: HostRuntime) {
+    let held = Noted { number: 4, note: 0 };
+    let again = Noted { number: 4, note: 7 };
+    let mut noted = [held; 3];
+    assert_eq!(rt;
+        enter(&mut noted, 1, again).ok(),
+        Some(1),
+        "one of its number is in already"
+    );
+    assert!(rt; noted[0] == held);
+    assert!(rt; held != again);
+    assert_eq!(rt; find(&noted, 1, &again), Ok(0));
 }
 
 #[test]

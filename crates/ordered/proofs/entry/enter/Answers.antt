@@ -13,16 +13,16 @@ front : (g : given.Over) (c : After-min-count g) → take c.min-count.result c.a
 front g c = take_capped _ _ c.args.items.now c.min-count.ensures
 
 pub returns-in_default : goal.returns-in_default
-returns-in_default g c = subst (λ l. Enters g.T.Ord.cmp c.args.x l c.args.items.now c.args.items.now c.min-count.result)
+returns-in_default g c = subst (λ l. Enters g.T.Ordered.order c.args.x l c.args.items.now c.args.items.now c.min-count.result)
     (front g (goal.at.returns-in_default g c).After-min-count)
-    (again g.met.T.Ord.total _ (omega arith) c.in_default.ensures)
+    (again g.met.T.Ordered.orderly _ (omega arith) c.in_default.ensures)
 
 pub returns-then-count-items : goal.returns-then-count-items
-returns-then-count-items g c = subst (λ l. Refuses g.T.Ord.cmp c.args.x l c.args.items.now c.args.items.now)
+returns-then-count-items g c = subst (λ l. Refuses g.T.Ordered.order c.args.x l c.args.items.now c.args.items.now)
     (front g (goal.at.returns-then-count-items g c).After-min-count)
-    (refused g.met.T.Ord.total (omega (arith, length-take c.min-count.result c.args.items.now)) c.in-Err.ensures)
+    (refused g.met.T.Ordered.orderly (omega (arith, length-take c.min-count.result c.args.items.now)) c.in-Err.ensures)
 
 pub returns : goal.returns
-returns g c = subst (λ l. Enters g.T.Ord.cmp c.args.x l c.args.items.now c.insert.new.items (c.min-count.result + 1))
+returns g c = subst (λ l. Enters g.T.Ordered.order c.args.x l c.args.items.now c.insert.new.items (c.min-count.result + 1))
     (front g (goal.at.returns g c).After-min-count)
-    (added g.met.T.Ord.total _ c.insert.ensures.list c.insert.ensures.rest (omega arith) c.in-Err.ensures)
+    (added g.met.T.Ordered.orderly _ c.insert.ensures.list c.insert.ensures.rest (omega arith) c.in-Err.ensures)
