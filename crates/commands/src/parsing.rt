@@ -91,9 +91,9 @@ fn command_of(verb: Verb, line: &[u8]) -> Option<Command>
 {
     let mut words = further(line);
     match verb {
-        Verb::Enter => row_from(words).map(Command::Enter),
-        Verb::Strike => row_from(words).map(Command::Strike),
-        Verb::Rule => rule_from(words).map(Command::Rule),
+        Verb::Enter => Some(Command::Enter(row_from(words)?)),
+        Verb::Strike => Some(Command::Strike(row_from(words)?)),
+        Verb::Rule => Some(Command::Rule(rule_from(words)?)),
         Verb::Verdict => verdict_of(line),
         Verb::Sheet => sheet_of(line),
         // It stands alone on its line.
