@@ -4,10 +4,11 @@ ghost use Rattle.std.specs.Option.{option_map};
 ghost use Rattle.store.specs.Lists.{all};
 ghost use Rattle.words.specs.Language.{texts};
 ghost use Rattle.words.specs.Meaning.{to_come};
-ghost use Rattle.commands.specs.Lines.{words_of, verb_in, has_form, alone, task_from, ParseSays};
-ghost use Rattle.commands.specs.Tasks.{conflicts, task_of};
+ghost use Rattle.commands.specs.Lines.{words_of, verb_in, has_form, task_from, ParseSays};
+ghost use Rattle.commands.specs.PlanWords.{nodes_in_words, verdict_in_words};
+ghost use Rattle.commands.specs.Plans.{plan_from, verdict_from};
+ghost use Rattle.commands.specs.Tasks.{task_of};
 ghost use Rattle.commands.specs.Rooms.{room};
-ghost use Rattle.commands.specs.declared.verb.Verb.TheVariants.{Verdict, Sheet};
 
 use crate::command::Command;
 use crate::plan_words::PlanWords;
@@ -38,7 +39,11 @@ pub fn parse(line: &[u8]) -> Result<Command, Refusal>
     if !have_forms(further(line)) {
         return Err(Refusal::UnknownWord);
     }
-    command_of(verb, line).ok_or(Refusal::Misplaced)
+    // By arms: `ok_or` would move the command, of 1.2 KiB, and the clearing of its room is much of what a short line costs.
+    match command_of(verb, line) {
+        Some(command) => Ok(command),
+        None => Err(Refusal::Misplaced),
+    }
 }
 
 // What the first word of a line commands, if it is known.
@@ -66,22 +71,22 @@ fn have_forms(mut words: Parts<'_>) -> bool
     words.all(|part| word(part).is_some())
 }
 
-// The command for a verdict, if the words behind the first ask for one; the like for a sheet. What they read is room that only a
-// function of its own is to pay for: each line goes through `command_of`.
-fn verdict_of(line: &[u8]) -> Option<Command>
+// The words of a verdict, if the words behind the first are one; the like for a sheet. What they read is room that only a function of
+// its own is to pay for: each line goes through `command_of`.
+fn verdict_words(line: &[u8]) -> Option<PlanWords>
     requires { length line.now ≤ 200 }
-    ensures { option_map task_of result ≡ task_from Verdict (drop 1 (words_of line.now)) }
+    ensures { option_map verdict_in_words result ≡ verdict_from (drop 1 (words_of line.now)) }
 {
     let _ = verdict_from(further(line))?;
-    Some(Command::Verdict(PlanWords::of(line)))
+    Some(PlanWords::of(line))
 }
 
-fn sheet_of(line: &[u8]) -> Option<Command>
+fn sheet_words(line: &[u8]) -> Option<PlanWords>
     requires { length line.now ≤ 200 }
-    ensures { option_map task_of result ≡ task_from Sheet (drop 1 (words_of line.now)) }
+    ensures { option_map nodes_in_words result ≡ plan_from (drop 1 (words_of line.now)) }
 {
     let _ = plan_from(further(line))?;
-    Some(Command::Sheet(PlanWords::of(line)))
+    Some(PlanWords::of(line))
 }
 
 // What the verb and the words behind it command.
@@ -94,9 +99,12 @@ fn command_of(verb: Verb, line: &[u8]) -> Option<Command>
         Verb::Enter => Some(Command::Enter(row_from(words)?)),
         Verb::Strike => Some(Command::Strike(row_from(words)?)),
         Verb::Rule => Some(Command::Rule(rule_from(words)?)),
-        Verb::Verdict => verdict_of(line),
-        Verb::Sheet => sheet_of(line),
+        Verb::Verdict => Some(Command::Verdict(verdict_words(line)?)),
+        Verb::Sheet => Some(Command::Sheet(sheet_words(line)?)),
         // It stands alone on its line.
-        Verb::Conflicts => words.next().is_none().then_some(Command::Conflicts),
+        Verb::Conflicts => match words.next() {
+            Some(_) => None,
+            None => Some(Command::Conflicts),
+        },
     }
 }
