@@ -32,7 +32,9 @@ impl Counter {
         }
     }
 
-    // Does what one line commands, and says how that went.
+    // Does what one line commands, and says how that went. Not inlined: each byte goes through `Session::hear`, which would else make
+    // room for all that a line may want.
+    #[inline(never)]
     pub fn tell(&mut self, line: &[u8]) -> Said
         ensures { TellSays self.old self.new line.now result }
     {
